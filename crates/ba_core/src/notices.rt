@@ -1,0 +1,99 @@
+//! The notices that the two sides of a link send each other, and the acts of a participant's work.
+ghost use Rattle.std.specs.Prelude.{◌≡◌};
+ghost use Rattle.ba_core.specs.Messages.{notice_code, notice_name};
+
+use crate::states::StateName;
+
+/// A message between a coordinator and a participant that is enrolled
+/// (WS-BusinessActivity 1.2, sections 3.1 and 3.2).
+#[derive(Clone, Copy, Debug, PartialEq, Eq)]
+pub enum Notice {
+    // From the coordinator.
+    Complete,
+    Close,
+    Cancel,
+    Compensate,
+    Failed,
+    Exited,
+    NotCompleted,
+    // From the participant.
+    Completed,
+    Closed,
+    Canceled,
+    Compensated,
+    Fail,
+    Exit,
+    CannotComplete,
+    // Either way.
+    GetStatus,
+    Status(StateName),
+}
+
+/// What a participant's work has come to.
+#[derive(Clone, Copy, Debug, PartialEq, Eq)]
+pub enum Act {
+    Completed,
+    Closed,
+    Canceled,
+    Compensated,
+    Fail,
+    Exit,
+    CannotComplete,
+}
+
+/// How an interposed participant leaves its activity before the activity has an outcome.
+#[derive(Clone, Copy, Debug, PartialEq, Eq)]
+pub enum Leave {
+    Exit,
+    CannotComplete,
+    Fail,
+}
+
+/// The notice's code, from 1 to 16: part of message numbers and of records.
+pub fn code_of(n: Notice) -> u8
+    ensures { result ≡ notice_code n }
+{
+    match n {
+        Notice::Complete => 1,
+        Notice::Close => 2,
+        Notice::Cancel => 3,
+        Notice::Compensate => 4,
+        Notice::Failed => 5,
+        Notice::Exited => 6,
+        Notice::NotCompleted => 7,
+        Notice::Completed => 8,
+        Notice::Closed => 9,
+        Notice::Canceled => 10,
+        Notice::Compensated => 11,
+        Notice::Fail => 12,
+        Notice::Exit => 13,
+        Notice::CannotComplete => 14,
+        Notice::GetStatus => 15,
+        Notice::Status(_) => 16,
+    }
+}
+
+/// The local name of the notice's body element, which also ends its action
+/// (WS-BusinessActivity 1.2, section 3).
+pub fn name_of(n: Notice) -> &'static [u8]
+    ensures { result.now ≡ notice_name n }
+{
+    match n {
+        Notice::Complete => b"Complete",
+        Notice::Close => b"Close",
+        Notice::Cancel => b"Cancel",
+        Notice::Compensate => b"Compensate",
+        Notice::Failed => b"Failed",
+        Notice::Exited => b"Exited",
+        Notice::NotCompleted => b"NotCompleted",
+        Notice::Completed => b"Completed",
+        Notice::Closed => b"Closed",
+        Notice::Canceled => b"Canceled",
+        Notice::Compensated => b"Compensated",
+        Notice::Fail => b"Fail",
+        Notice::Exit => b"Exit",
+        Notice::CannotComplete => b"CannotComplete",
+        Notice::GetStatus => b"GetStatus",
+        Notice::Status(_) => b"Status",
+    }
+}
