@@ -1,7 +1,7 @@
--- The coordinator's end of a link: its state table, and its rules of choosing, completing and sending
--- (this project's tables, after WS-BusinessActivity 1.2, appendix C; docs/FORMATS.md has them too).
+-- The coordinator's end of a link: its state table, and its rules of choosing, completing and sending.
+-- The tables are this project's own, after WS-BusinessActivity 1.2; docs/FORMATS.md prints them.
 use Rattle.std.specs.Prelude.{Bool, true, false, Option, None, Some}
-use Rattle.ba_core.specs.Cells.{Cell, to, pc_to, stay, again, none, Mark, both, cc, pc, nobody, is_marked}
+use Rattle.ba_core.specs.Cells.{Cell, to, pc_to, stay, again, none, Mark, both, cc, pc, neither, is_marked}
 use Rattle.ba_core.specs.declared.protocols.Protocol.{Protocol}
 use Rattle.ba_core.specs.declared.protocols.Protocol.TheVariants.{Pc, Cc}
 use Rattle.ba_core.specs.declared.protocols.Verdict.{Verdict}
@@ -14,7 +14,7 @@ use Rattle.ba_core.specs.declared.states.How.TheVariants.{Canceled, Closed, Comp
 use Rattle.ba_core.specs.declared.states.CState.{CState}
 use Rattle.ba_core.specs.declared.states.CState.TheVariants.{Active, Completing, Canceling, CancelingActive, CancelingCompleting, Completed, Closing, Compensating, FailingActive, FailingCompleting, FailingCanceling, FailingCompensating, NotCompleting, Exiting, Ended}
 
--- a row of the table: its mark, and a cell for each notice that a participant sends
+-- a row of the table: its mark, and a cell for each notice that a participant alone sends
 pub record EndCells : Type 0 where
   pub mark : Mark
   pub completed : Cell CState
@@ -51,7 +51,7 @@ end_rows (Ended NotCompleted) = row both stay stay stay stay stay stay again
 end_rows (Ended Canceled) = row both stay stay stay stay stay stay stay
 end_rows (Ended Closed) = row both stay stay stay stay stay stay stay
 end_rows (Ended Compensated) = row both stay stay stay stay stay stay stay
-end_rows (Ended Refused) = row nobody none none none none none none none
+end_rows (Ended Refused) = row neither none none none none none none none
 
 -- the column of a notice; a notice that is no column of this side has no row
 abbrev pub end_column : Notice → EndCells → Cell CState
@@ -97,12 +97,12 @@ chosen_state protocol (Ended Closed) Close = Some (Ended Closed)
 chosen_state protocol (Ended Exited) Close = Some (Ended Exited)
 chosen_state protocol s Close = None
 
--- the state of an end whose participant is asked to complete
+-- the state of an end whose participant is asked to complete, where it may be asked
 abbrev pub completed_state : Protocol → CState → Option CState
 completed_state Cc Active = Some Completing
 completed_state protocol s = None
 
--- what a tick makes of an end's state, and the notice that the end then sends
+-- what a tick makes of an end's state, and the notice by which the end then tells it
 abbrev pub end_tick : CState → CState × Option Notice
 end_tick Completing = (Completing, Some notice.Complete)
 end_tick Canceling = (Canceling, Some notice.Cancel)

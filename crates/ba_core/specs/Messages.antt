@@ -1,4 +1,5 @@
--- The codes and names of notices, and the names of states (WS-BusinessActivity 1.2, sections 3.1 to 3.3).
+-- The names of notices and of states, after WS-BusinessActivity 1.2; the codes of notices and the names of
+-- split states are this project's own.
 use Rattle.std.specs.Prelude.{ℕ, Bool, true, false, List, codes}
 use Rattle.ba_core.specs.declared.notices.Notice.{Notice}
 use Rattle.ba_core.specs.declared.notices.Notice.TheVariants as notice
@@ -64,7 +65,7 @@ end_name end.NotCompleting = shown.NotCompleting
 end_name end.Exiting = shown.Exiting
 end_name (end.Ended how) = shown.Ended
 
--- a participant's state as a Status notice names it: one that isn't enrolled yet shows as Active
+-- a participant's state as a Status notice names it; Registering shows as Active
 abbrev pub part_name : PState → StateName
 part_name part.Registering = shown.Active
 part_name part.Active = shown.Active
@@ -81,8 +82,8 @@ part_name part.NotCompleting = shown.NotCompleting
 part_name part.Exiting = shown.Exiting
 part_name (part.Ended how) = shown.Ended
 
--- the notice moves a side by its state table; GetStatus and Status do not
-abbrev pub has_rows : Notice → Bool
-has_rows notice.GetStatus = false
-has_rows (notice.Status name) = false
-has_rows n = true
+-- the notice is a column of one of the two state tables; GetStatus and Status are not
+abbrev pub is_column : Notice → Bool
+is_column notice.GetStatus = false
+is_column (notice.Status name) = false
+is_column n = true

@@ -1,4 +1,5 @@
--- The parts of an identifier: a counter below 2^64, a node's number above it, a message's code above both.
+-- The parts of an identifier: a counter below 2^64, and a node's number above it. The number of a message
+-- that an object sends is the object's identifier with the message's code above it.
 use Rattle.std.specs.Prelude.{ℕ, ◌+◌, ◌*◌, ◌/◌, ◌%◌, ◌^◌}
 
 -- the identifier of the object with this counter at this node

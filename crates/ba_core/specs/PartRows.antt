@@ -1,7 +1,7 @@
--- The participant's side of a link: its state table, and its rules of acting and sending
--- (this project's tables, after WS-BusinessActivity 1.2, appendix C; docs/FORMATS.md has them too).
+-- The participant's side of a link: its state table, and its rules of acting and sending.
+-- The tables are this project's own, after WS-BusinessActivity 1.2; docs/FORMATS.md prints them.
 use Rattle.std.specs.Prelude.{Bool, true, false, Option, None, Some}
-use Rattle.ba_core.specs.Cells.{Cell, to, pc_to, stay, again, none, Mark, both, cc, nobody, is_marked}
+use Rattle.ba_core.specs.Cells.{Cell, to, pc_to, stay, again, none, Mark, both, cc, is_marked}
 use Rattle.ba_core.specs.declared.protocols.Protocol.{Protocol}
 use Rattle.ba_core.specs.declared.protocols.Protocol.TheVariants.{Pc, Cc}
 use Rattle.ba_core.specs.declared.notices.Act.{Act}
@@ -14,7 +14,7 @@ use Rattle.ba_core.specs.declared.states.How.TheVariants.{Canceled, Closed, Comp
 use Rattle.ba_core.specs.declared.states.PState.{PState}
 use Rattle.ba_core.specs.declared.states.PState.TheVariants.{Registering, Active, Completing, Canceling, Completed, Closing, Compensating, FailingActive, FailingCompleting, FailingCanceling, FailingCompensating, NotCompleting, Exiting, Ended}
 
--- a row of the table: its mark, and a cell for each notice that a coordinator sends
+-- a row of the table: its mark, and a cell for each notice that a coordinator alone sends
 pub record PartCells : Type 0 where
   pub mark : Mark
   pub complete : Cell PState
@@ -30,7 +30,7 @@ row m a b c d e f g = record { mark = m; complete = a; close = b; cancel = c; co
 
 -- The table of receiving, a line a row. After the mark stand the cells of the columns
 -- Complete, Close, Cancel, Compensate, Failed, Exited, NotCompleted.
--- A participant that is Registering receives nothing by this table.
+-- The line of Registering is no line of the table: nothing is received by it in that state.
 abbrev pub part_rows : PState → PartCells
 part_rows Registering = row both none none none none none none none
 part_rows Active = row both (to Completing) none (to Canceling) none none none none

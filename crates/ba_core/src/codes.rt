@@ -1,4 +1,4 @@
-//! The codes of the faults that a node answers.
+//! The codes of faults.
 
 use std::fmt;
 

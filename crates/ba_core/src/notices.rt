@@ -5,7 +5,7 @@ ghost use Rattle.ba_core.specs.Messages.{notice_code, notice_name};
 use crate::states::StateName;
 
 /// A message between a coordinator and a participant that is enrolled
-/// (WS-BusinessActivity 1.2, sections 3.1 and 3.2).
+/// (WS-BusinessActivity 1.2, section 3).
 #[derive(Clone, Copy, Debug, PartialEq, Eq)]
 pub enum Notice {
     // From the coordinator.
@@ -49,7 +49,7 @@ pub enum Leave {
     Fail,
 }
 
-/// The notice's code, from 1 to 16: part of message numbers and of records.
+/// The notice's code, from 1 to 16 (this project's own).
 pub fn code_of(n: Notice) -> u8
     ensures { result ≡ notice_code n }
 {

@@ -17,8 +17,8 @@ pub enum How {
     Refused,
 }
 
-/// The state of a coordinator's end of a link
-/// (WS-BusinessActivity 1.2, appendix C; its split states have names of their own).
+/// The state of a coordinator's end of a link (WS-BusinessActivity 1.2, section 3). The split states,
+/// such as CancelingActive, and how a link ended are this project's own.
 #[derive(Clone, Copy, Debug, PartialEq, Eq, Hash)]
 pub enum CState {
     Active,
@@ -38,7 +38,8 @@ pub enum CState {
     Ended(How),
 }
 
-/// The state of a participant (WS-BusinessActivity 1.2, appendix C).
+/// The state of a participant (WS-BusinessActivity 1.2, section 3). Registering, the split states and
+/// how a link ended are this project's own.
 #[derive(Clone, Copy, Debug, PartialEq, Eq, Hash)]
 pub enum PState {
     /// It has asked to be enrolled, and knows of no answer.

@@ -1,7 +1,7 @@
 //! The coordinator's end of a link.
 ghost use Rattle.std.specs.Prelude.{◌≡◌, IsTrue, true};
 ghost use Rattle.ba_core.specs.EndRows.{end_row, end_tick, chosen_state, is_end_state};
-ghost use Rattle.ba_core.specs.Messages.{has_rows};
+ghost use Rattle.ba_core.specs.Messages.{is_column};
 ghost use Rattle.ba_core.specs.declared.protocols.Protocol.{Protocol};
 
 use ba_core::{CRow, CState, How, Notice, Verdict};
@@ -16,7 +16,7 @@ fn to(next: CState) -> CRow
 /// The row of an end for a participant's notice.
 pub fn c_receive(s: CState, n: Notice) -> CRow
     requires state { IsTrue (is_end_state Protocol.Pc s) }
-    requires notice { IsTrue (has_rows n) }
+    requires notice { IsTrue (is_column n) }
     ensures row { result ≡ end_row Protocol.Pc s n }
 {
     let stay = CRow::Row {
@@ -99,7 +99,7 @@ pub fn c_choose(s: CState, v: Verdict) -> Option<CState>
     }
 }
 
-/// What a tick makes of an end's state, and the notice that the end then sends.
+/// What a tick makes of an end's state, and the notice by which the end then tells it.
 pub fn c_tick(s: CState) -> (CState, Option<Notice>)
     requires { IsTrue (is_end_state Protocol.Pc s) }
     ensures { result ≡ end_tick s }

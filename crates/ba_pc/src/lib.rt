@@ -1,4 +1,4 @@
-//! The tables of ParticipantCompletion (WS-BusinessActivity 1.2, section 3.1 and appendix C).
+//! This project's tables of ParticipantCompletion, after WS-BusinessActivity 1.2, section 3.1.
 //! No call takes memory.
 #![tactic(auto)]
 

@@ -1,7 +1,7 @@
 //! The participant's side of a link.
 ghost use Rattle.std.specs.Prelude.{◌≡◌, ◌≢◌, IsTrue, true};
 ghost use Rattle.ba_core.specs.PartRows.{part_row, part_says, acted_state, is_part_state};
-ghost use Rattle.ba_core.specs.Messages.{has_rows};
+ghost use Rattle.ba_core.specs.Messages.{is_column};
 ghost use Rattle.ba_core.specs.declared.protocols.Protocol.{Protocol};
 
 use ba_core::{Act, How, Notice, PRow, PState};
@@ -16,8 +16,8 @@ fn to(next: PState) -> PRow
 /// The row of a participant for a coordinator's notice.
 pub fn p_receive(s: PState, n: Notice) -> PRow
     requires state { IsTrue (is_part_state Protocol.Pc s) }
-    requires enrolled { s ≢ PState.Registering }
-    requires notice { IsTrue (has_rows n) }
+    requires answered { s ≢ PState.Registering }
+    requires notice { IsTrue (is_column n) }
     ensures row { result ≡ part_row Protocol.Pc s n }
 {
     let stay = PRow::Row {
@@ -52,8 +52,8 @@ pub fn p_receive(s: PState, n: Notice) -> PRow
         },
         Notice::Compensate => match s {
             PState::Completed => to(PState::Compensating),
-            PState::FailingCompensating => again,
-            PState::Ended(How::Canceled | How::Closed | How::Compensated) => again,
+            PState::FailingCompensating
+            | PState::Ended(How::Canceled | How::Closed | How::Compensated) => again,
             PState::Compensating | PState::Ended(_) => stay,
             _ => PRow::Invalid,
         },
@@ -74,6 +74,7 @@ pub fn p_receive(s: PState, n: Notice) -> PRow
             PState::Ended(_) => stay,
             _ => PRow::Invalid,
         },
+        // Complete is of CoordinatorCompletion alone, and the participant's own notices are no columns here.
         _ => PRow::Invalid,
     }
 }

@@ -2,10 +2,22 @@
 //! faults, and only a count that rose justifies a fault.
 #![tactic(auto)]
 
+mod calls;
 mod failures;
+mod outs;
+mod readers;
 mod sinks;
 mod sources;
+mod texts;
+mod writers;
 
 pub use failures::Failed;
+pub use outs::Out;
+pub use readers::ReadSource;
 pub use sinks::Sink;
 pub use sources::Source;
+pub use texts::Text;
+pub use writers::WriteSink;
+
+#[cfg(test)]
+mod tests;

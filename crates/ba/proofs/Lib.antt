@@ -1,0 +1,9 @@
+pub mod Blocks
+pub mod Breaks
+pub mod Decimals
+pub mod Due
+pub mod Feeds
+pub mod LineCases
+pub mod Progress
+pub mod Promised
+pub mod Streaming

@@ -1,0 +1,11 @@
+use Rattle.std.proofs.Common.{◌≤◌, drop}
+use Rattle.ba_world.specs.PairState.{start}
+use Rattle.ba_world.specs.PairPlay.{play}
+use Rattle.ba.proofs.Breaks.{SoFar}
+use Rattle.ba.proofs.play.play_pair.Given as goal
+
+abbrev pub invariant-events : goal.invariant-events
+invariant-events g l = record {
+  so_far : SoFar (play (start l.fn.protocol) l.events) (g.K.Sink.written l.initial.sink) (g.K.Sink.written l.sink) l.text (play l.pair (drop l.number-index l.events));
+  later : g.K.Sink.faults l.initial.sink ≤ g.K.Sink.faults l.sink;
+}

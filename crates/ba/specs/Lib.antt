@@ -1,0 +1,8 @@
+pub mod AtHand
+pub mod Lines
+pub mod Output
+pub mod Promise
+pub mod ScriptText
+pub mod Shown
+pub mod Taking
+pub mod Words

@@ -1,0 +1,118 @@
+-- What `run` promises of a replay, by its answer.
+use Rattle.std.specs.Prelude.{◌≡◌, ℕ, ◌+◌, ◌-◌, ◌⊎◌, IsTrue, List, [], ◌∷◌, ◌++◌, take, nat_eq, Option, None, Some}
+use Rattle.std.specs.List.{list_any}
+use Rattle.std.specs.Io.KnownBytes.{Appends, Keeps}
+use Rattle.ba_core.specs.declared.protocols.Protocol.TheVariants.{Pc}
+use Rattle.ba_world.specs.PairState.{start}
+use Rattle.ba_world.specs.PairPlay.{Numbered, Outcome, Play, play, IsSafePlay}
+use Rattle.ba.specs.declared.play.PlayFault.{PlayFault}
+use Rattle.ba.specs.declared.play.PlayFault.TheVariants as played
+use Rattle.ba.specs.declared.run.RunFault.{RunFault}
+use Rattle.ba.specs.declared.run.RunFault.TheVariants as fault
+use Rattle.ba.specs.declared.script.Script.{Script}
+use Rattle.ba.specs.declared.script.Script.TheVariants.{Pair}
+use Rattle.ba.specs.declared.script.ScriptFault.{ScriptFault}
+use Rattle.ba.specs.declared.script.ScriptFault.TheVariants as script
+use Rattle.ba.specs.Output.{WritesPart}
+use Rattle.ba.specs.Lines.{lines_of, bytes_of}
+use Rattle.ba.specs.ScriptText.{IsPairScript, IsBadScript, IsLongScript, most_lines}
+use Rattle.ba.specs.Taking.{TakesAtMost, lookahead}
+use Rattle.ba.specs.Shown.{numbered, shown}
+
+-- the play of a script
+abbrev pub play_of : Script → Play
+play_of (Pair protocol events) = play (start protocol) events
+
+-- a play that broke off: what was written of it, and why
+abbrev pub BreaksOff : Play → Option (List ℕ) → Option (List ℕ) → PlayFault → Type 0
+BreaksOff p before now (played.NoSuchMessage number) = (p.stopped_at ≡ Some number) × Appends before now (shown p.lines)
+BreaksOff p before now played.Write = WritesPart before now (shown p.lines)
+BreaksOff p before now played.Memory = WritesPart before now (shown p.lines)
+
+-- what an event's outcome shows
+abbrev pub outcome_text : ℕ → Option Outcome → List ℕ
+outcome_text number None = []
+outcome_text number (Some outcome) = numbered number outcome.1
+
+-- one event broke off a play: what was written since of the text before it and of its own line, and why
+abbrev pub BreaksOffAt : ℕ → Option Outcome → List ℕ → Option (List ℕ) → Option (List ℕ) → PlayFault → Type 0
+BreaksOffAt number outcome text before now (played.NoSuchMessage at) = (outcome ≡ None) × (at ≡ number) × Appends before now text
+BreaksOffAt number outcome text before now played.Write = WritesPart before now (text ++ outcome_text number outcome)
+BreaksOffAt number outcome text before now played.Memory = Keeps before now
+
+-- The input is a script, and its whole play was written. Each pair of the play is safe.
+pub record WritesPlay (input : List ℕ) (before now : Option (List ℕ)) : Type 0 where
+  pub events : List Numbered
+  pub script : IsPairScript input events
+  pub whole : (play (start Pc) events).stopped_at ≡ None
+  pub written : Appends before now (shown (play (start Pc) events).lines)
+  pub safe : IsSafePlay (play (start Pc) events)
+
+-- The input is a script, and its play was written up to the event of this line, which can't be played.
+pub record WritesUpTo (input : List ℕ) (number : ℕ) (before now : Option (List ℕ)) : Type 0 where
+  pub events : List Numbered
+  pub script : IsPairScript input events
+  pub stopped : (play (start Pc) events).stopped_at ≡ Some number
+  pub written : Appends before now (shown (play (start Pc) events).lines)
+  pub safe : IsSafePlay (play (start Pc) events)
+
+-- The input is a script, and a front of its play was written.
+pub record WritesFront (input : List ℕ) (before now : Option (List ℕ)) : Type 0 where
+  pub events : List Numbered
+  pub script : IsPairScript input events
+  pub written : WritesPart before now (shown (play (start Pc) events).lines)
+  pub safe : IsSafePlay (play (start Pc) events)
+
+-- The input is refused at its first bad line. Nothing was written, and little was read past the line.
+pub record RefusesLine (input : List ℕ) (rest before now : Option (List ℕ)) : Type 0 where
+  pub number : ℕ
+  pub bad : IsBadScript input number
+  pub kept : Keeps before now
+  pub taken : TakesAtMost (Some input) rest (bytes_of (take (number - 1) (lines_of input)) + lookahead)
+
+-- The input has too many lines. Nothing was written, and little was read past the last line that it may have.
+pub record RefusesLength (input : List ℕ) (rest before now : Option (List ℕ)) : Type 0 where
+  pub long : IsLongScript input
+  pub kept : Keeps before now
+  pub taken : TakesAtMost (Some input) rest (bytes_of (take most_lines (lines_of input)) + lookahead)
+
+-- why a replay of this input ended early, and what it had written, where this was left to read
+abbrev pub Stops : List ℕ → Option (List ℕ) → Option (List ℕ) → Option (List ℕ) → RunFault → Type 0
+Stops input rest before now fault.Usage = ⊥
+Stops input rest before now (fault.BadLine number column) = RefusesLine input rest before now
+Stops input rest before now (fault.NoSuchMessage number) = WritesUpTo input number before now
+Stops input rest before now fault.Read = Keeps before now
+Stops input rest before now fault.Write = WritesFront input before now
+Stops input rest before now fault.Memory = WritesFront input before now ⊎ Keeps before now
+Stops input rest before now fault.Limit = RefusesLength input rest before now
+
+-- the input or an event of it is refused
+abbrev pub Refuses : List ℕ → Option (List ℕ) → Option (List ℕ) → Option (List ℕ) → Type 0
+Refuses input rest before now = RefusesLine input rest before now ⊎ ((number : ℕ) × WritesUpTo input number before now)
+
+-- the fault of a run whose script wasn't read
+abbrev pub unread : ScriptFault → RunFault
+unread script.Memory = fault.Memory
+unread script.Read = fault.Read
+unread (script.BadLine number column) = fault.BadLine number column
+unread script.TooManyLines = fault.Limit
+
+-- the fault of a run whose play broke off
+abbrev pub unplayed : PlayFault → RunFault
+unplayed played.Memory = fault.Memory
+unplayed played.Write = fault.Write
+unplayed (played.NoSuchMessage number) = fault.NoSuchMessage number
+
+-- the status of a run that ended early
+abbrev pub status_of : RunFault → ℕ
+status_of fault.Usage = 2
+status_of (fault.BadLine number column) = 3
+status_of (fault.NoSuchMessage number) = 3
+status_of fault.Read = 4
+status_of fault.Write = 5
+status_of fault.Memory = 6
+status_of fault.Limit = 7
+
+-- the statuses of a run
+abbrev pub IsStatus : ℕ → Type 0
+IsStatus status = IsTrue (list_any (nat_eq status) (0 ∷ 2 ∷ 3 ∷ 4 ∷ 5 ∷ 6 ∷ 7 ∷ []))

@@ -1,0 +1,156 @@
+//! The program's work, over whatever it reads from and writes to.
+ghost use Rattle.std.specs.Prelude.{◌≡◌, ◌≤◌, ◌⊎◌, ◌↔◌, IsTrue, IfErr, IfSome, OnOk, Ok, Err, None, map, string_bytes};
+ghost use Rattle.std.specs.Io.KnownBytes.{Appends, IsAtEnd, Keeps};
+ghost use Rattle.ba_ports.specs.Causes.{Rose};
+ghost use Rattle.ba.specs.Taking.{TakesAtMost, most_taken};
+ghost use Rattle.ba.specs.ScriptText.{IsBuilt};
+ghost use Rattle.ba.specs.Shown.{shown};
+ghost use Rattle.ba.specs.Words.{IsReplay};
+ghost use Rattle.ba.specs.Promise.{BreaksOff, play_of, WritesPlay, WritesFront, RefusesLength, Refuses, Stops, IsStatus, status_of, unread, unplayed};
+
+use crate::output::write_all;
+use crate::play::{PlayFault, play_pair};
+use crate::script::{Script, ScriptFault, read_script};
+use crate::words::is_replay;
+use ba_ports::{Sink, Source};
+use std::alloc::Global;
+use thiserror::Error;
+
+/// Why a run ended early. Its text is the note that the run leaves.
+#[derive(Clone, Copy, Debug, PartialEq, Eq, Error)]
+pub enum RunFault {
+    #[error("usage")]
+    Usage,
+    #[error("line {0} column {1}")]
+    BadLine(u32, u32),
+    #[error("line {0} no such message")]
+    NoSuchMessage(u32),
+    #[error("read")]
+    Read,
+    #[error("write")]
+    Write,
+    #[error("memory")]
+    Memory,
+    #[error("limit")]
+    Limit,
+}
+
+/// Does what the words ask for, and answers the status of the program. The only command yet is `replay`:
+/// it reads a script of a pair from the source, plays it, and writes the line of each event to the sink.
+/// Unless the status is 0, a note that says why goes to `notes`, whose faults are ignored.
+pub fn run<S: Source, K: Sink, N: Sink>(
+    alloc: Global,
+    words: &[String],
+    source: &mut S,
+    sink: &mut K,
+    notes: &mut N,
+) -> u8
+    ensures known { IsStatus result }
+    // 2: the words are no command line.
+    ensures usage { (result ≡ 2) ↔ ¬ IsReplay (map string_bytes words.now) }
+    // 0: the input is a script, read to its end, and its play is written; each pair of the play is safe.
+    ensures done { result ≡ 0 → IfSome (S.left source.old) (λ input. WritesPlay input (K.written sink.old) (K.written sink.new)) }
+    ensures end { result ≡ 0 → IsAtEnd (S.left source.new) }
+    // 3: the first bad line, and nothing is written; or the first event that can't be played, and the
+    // play up to it is written.
+    ensures refused { result ≡ 3 → IfSome (S.left source.old) (λ input. Refuses input (S.left source.new) (K.written sink.old) (K.written sink.new)) }
+    // 4: the source failed.
+    ensures read { result ≡ 4 → Rose (S.faults source.old) (S.faults source.new) }
+    ensures unread { result ≡ 4 → Keeps (K.written sink.old) (K.written sink.new) }
+    // 5: the sink failed, or took nothing of what wasn't empty.
+    ensures write { result ≡ 5 → Rose (K.faults sink.old) (K.faults sink.new) ⊎ IsTrue (K.took_nothing sink.new) }
+    ensures part { result ≡ 5 → IfSome (S.left source.old) (λ input. WritesFront input (K.written sink.old) (K.written sink.new)) }
+    // 6: want of memory.
+    ensures memory { result ≡ 6 → IfSome (S.left source.old) (λ input. WritesFront input (K.written sink.old) (K.written sink.new) ⊎ Keeps (K.written sink.old) (K.written sink.new)) }
+    // 7: more lines than a script may have.
+    ensures limit { result ≡ 7 → IfSome (S.left source.old) (λ input. RefusesLength input (S.left source.new) (K.written sink.old) (K.written sink.new)) }
+    // However long the input is, so much of it is taken at most.
+    ensures bounded { TakesAtMost (S.left source.old) (S.left source.new) most_taken }
+{
+    if !is_replay(words) {
+        return refuse(alloc, RunFault::Usage, notes);
+    }
+    match replay(alloc, source, sink) {
+        Ok(()) => 0,
+        Err(fault) => refuse(alloc, fault, notes),
+    }
+}
+
+// Reads a script, plays it and writes its lines.
+fn replay<S: Source, K: Sink>(alloc: Global, source: &mut S, sink: &mut K) -> Result<(), RunFault>
+    ensures done { OnOk result (IfSome (S.left source.old) (λ input. WritesPlay input (K.written sink.old) (K.written sink.new))) }
+    ensures end { OnOk result (IsAtEnd (S.left source.new)) }
+    ensures stops { IfErr result (λ fault. IfSome (S.left source.old) (λ input. Stops input (S.left source.new) (K.written sink.old) (K.written sink.new) fault)) }
+    ensures words { (result ≡ Err RunFault.Usage) → ⊥ }
+    ensures read { (result ≡ Err RunFault.Read) → Rose (S.faults source.old) (S.faults source.new) }
+    ensures unread { (result ≡ Err RunFault.Read) → Keeps (K.written sink.old) (K.written sink.new) }
+    ensures write { (result ≡ Err RunFault.Write) → Rose (K.faults sink.old) (K.faults sink.new) ⊎ IsTrue (K.took_nothing sink.new) }
+    ensures bounded { TakesAtMost (S.left source.old) (S.left source.new) most_taken }
+{
+    match read_script(alloc, source) {
+        Ok(script) => match play_script(alloc, script, sink) {
+            Ok(()) => Ok(()),
+            Err(fault) => Err(unplayed(fault)),
+        },
+        Err(fault) => Err(unread(fault)),
+    }
+}
+
+// Plays a script, and writes its lines.
+fn play_script<K: Sink>(alloc: Global, script: Script, sink: &mut K) -> Result<(), PlayFault>
+    requires { IsBuilt script }
+    ensures whole { OnOk result ((play_of script).stopped_at ≡ None) }
+    ensures written { OnOk result (Appends (K.written sink.old) (K.written sink.new) (shown (play_of script).lines)) }
+    ensures broken { IfErr result (BreaksOff (play_of script) (K.written sink.old) (K.written sink.new)) }
+    ensures cause { (result ≡ Err PlayFault.Write) → Rose (K.faults sink.old) (K.faults sink.new) ⊎ IsTrue (K.took_nothing sink.new) }
+{
+    let Script::Pair(protocol, events) = script;
+    play_pair(alloc, protocol, events.as_slice(), sink)
+}
+
+// The fault of a run whose script wasn't read.
+fn unread(fault: ScriptFault) -> RunFault
+    ensures { result ≡ unread fault }
+{
+    match fault {
+        ScriptFault::Memory => RunFault::Memory,
+        ScriptFault::Read => RunFault::Read,
+        ScriptFault::BadLine(number, column) => RunFault::BadLine(number, column),
+        ScriptFault::TooManyLines => RunFault::Limit,
+    }
+}
+
+// The fault of a run whose play broke off.
+fn unplayed(fault: PlayFault) -> RunFault
+    ensures { result ≡ unplayed fault }
+{
+    match fault {
+        PlayFault::Memory => RunFault::Memory,
+        PlayFault::Write => RunFault::Write,
+        PlayFault::NoSuchMessage(number) => RunFault::NoSuchMessage(number),
+    }
+}
+
+/// Leaves the note of a run that ended early, and answers its status. Faults of the notes are ignored.
+pub fn refuse<N: Sink>(alloc: Global, fault: RunFault, notes: &mut N) -> u8
+    ensures { result ≡ status_of fault }
+{
+    if let Ok(note) = format!(in alloc; "{fault}\n") {
+        let _ = write_all(notes, note.as_bytes());
+    }
+    status_of(fault)
+}
+
+// The status of a run that ended early.
+fn status_of(fault: RunFault) -> u8
+    ensures { result ≡ status_of fault }
+{
+    match fault {
+        RunFault::Usage => 2,
+        RunFault::BadLine(_, _) | RunFault::NoSuchMessage(_) => 3,
+        RunFault::Read => 4,
+        RunFault::Write => 5,
+        RunFault::Memory => 6,
+        RunFault::Limit => 7,
+    }
+}

@@ -1,0 +1,3 @@
+mod Everywhere
+pub mod Kept
+mod Table

@@ -1,0 +1,4 @@
+pub mod Fits
+pub mod Link
+pub mod Pairs
+pub mod States

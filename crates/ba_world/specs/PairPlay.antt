@@ -1,0 +1,109 @@
+-- The play of a pair's events: what each event leads to, and what it shows. Choosing is that of an end
+-- alone in a root scope of MixedOutcome; each message that is sent joins the bag.
+use Rattle.std.specs.Prelude.{◌≢◌, ℕ, ◌-◌, List, [], ◌∷◌, ◌++◌, length, slice_get, nat_eq, Option, None, Some, if◌then◌else◌}
+use Rattle.std.specs.Option.{option_to_list}
+use Rattle.std.specs.List.{AllByRecursion}
+use Rattle.ba_core.specs.EndRows.{end_row, end_tick, chosen_state, completed_state}
+use Rattle.ba_core.specs.PartRows.{part_row, part_says, acted_state}
+use Rattle.ba_core.specs.declared.codes.Code.TheVariants.{InvalidState}
+use Rattle.ba_core.specs.declared.protocols.Side.TheVariants.{Coordinator, Participant}
+use Rattle.ba_core.specs.declared.protocols.Verdict.{Verdict}
+use Rattle.ba_core.specs.declared.notices.Notice.{Notice}
+use Rattle.ba_core.specs.declared.states.CState.{CState}
+use Rattle.ba_core.specs.declared.states.PState.{PState}
+use Rattle.ba_core.specs.declared.rows.CRow.{CRow}
+use Rattle.ba_core.specs.declared.rows.CRow.TheVariants as crow
+use Rattle.ba_core.specs.declared.rows.PRow.{PRow}
+use Rattle.ba_core.specs.declared.rows.PRow.TheVariants as prow
+use Rattle.ba_link.specs.Link.{settled}
+use Rattle.ba_world.specs.declared.events.PairEvent.{PairEvent}
+use Rattle.ba_world.specs.declared.events.PairEvent.TheVariants.{Act, Tick, Choose, Complete, Deliver}
+use Rattle.ba_world.specs.declared.lines.Line.{Line}
+use Rattle.ba_world.specs.declared.lines.Line.TheVariants as line
+use Rattle.ba_world.specs.PairState.{PairState, PairFits, is_for_part}
+
+-- the pair after an event, and the line that the event shows
+abbrev pub Outcome : Type 0
+Outcome = PairState × Line
+
+abbrev pub seen : PairState → Outcome
+seen w = (w, line.Pair w.end w.part (length w.bag))
+
+-- a refusal changes nothing; 34: there is a verdict already, 35: the end isn't ready for that verdict,
+-- 43: the state doesn't let it
+abbrev pub refused : PairState → ℕ → Outcome
+refused w number = (w, line.Refused number None)
+
+abbrev pub acted : PairState → Option PState → Outcome
+acted w None = refused w 43
+acted w (Some next) = seen (record w { part = next })
+
+abbrev pub end_ticked : PairState → CState × Option Notice → Outcome
+end_ticked w said = seen (record w { end = said.0; bag = w.bag ++ option_to_list said.1 })
+
+abbrev pub part_ticked : PairState → Option Notice → Outcome
+part_ticked w said = seen (record w { bag = w.bag ++ option_to_list said })
+
+abbrev pub chosen : PairState → Verdict → Option Verdict → Option CState → Outcome
+chosen w v (Some before) next = refused w 34
+chosen w v None None = refused w 35
+chosen w v None (Some next) = seen (record w { end = next; verdict = Some v })
+
+abbrev pub completed : PairState → Option Verdict → Option CState → Outcome
+completed w (Some before) next = refused w 34
+completed w None None = refused w 43
+completed w None (Some next) = seen (record w { end = next })
+
+-- a notice without a row is answered by the fault InvalidState, and changes nothing
+abbrev pub end_received : PairState → CRow → Outcome
+end_received w crow.Invalid = (w, line.Fault InvalidState)
+end_received w (crow.Row next prompt) = seen (record w { end = settled w.protocol next w.verdict })
+
+abbrev pub part_received : PairState → PRow → Outcome
+part_received w prow.Invalid = (w, line.Fault InvalidState)
+part_received w (prow.Row next prompt) = seen (record w { part = next })
+
+abbrev pub received : PairState → Notice → Outcome
+received w n = if is_for_part n then part_received w (part_row w.protocol w.part n) else end_received w (end_row w.protocol w.end n)
+
+-- the bag's message with this number, from 1
+abbrev pub message_at : List Notice → ℕ → Option Notice
+message_at bag number = if nat_eq number 0 then None else slice_get bag (number - 1)
+
+abbrev pub delivered : PairState → Option Notice → Option Outcome
+delivered w None = None
+delivered w (Some n) = Some (received w n)
+
+-- what an event leads to; None where it names a message that isn't there
+abbrev pub happens : PairState → PairEvent → Option Outcome
+happens w (Act act) = Some (acted w (acted_state w.protocol w.part act))
+happens w (Tick Coordinator) = Some (end_ticked w (end_tick w.end))
+happens w (Tick Participant) = Some (part_ticked w (part_says w.part))
+happens w (Choose v) = Some (chosen w v w.verdict (chosen_state w.protocol w.end v))
+happens w Complete = Some (completed w w.verdict (completed_state w.protocol w.end))
+happens w (Deliver number) = delivered w (message_at w.bag number)
+
+-- an event and the number of its line in the script
+abbrev pub Numbered : Type 0
+Numbered = ℕ × PairEvent
+
+-- a play: the numbered lines that it shows; the pair at each moment, the first before any event; and the
+-- number of the first event that couldn't be played, behind which nothing is played
+pub record Play : Type 0 where
+  pub lines : List (ℕ × Line)
+  pub pairs : List PairState
+  pub stopped_at : Option ℕ
+
+abbrev pub played_on : PairState → ℕ → Option Outcome → (PairState → Play) → Play
+played_on w number None rest = record { lines = []; pairs = w ∷ []; stopped_at = Some number }
+played_on w number (Some outcome) rest =
+    let later = rest outcome.0 in record { lines = (number, outcome.1) ∷ later.lines; pairs = w ∷ later.pairs; stopped_at = later.stopped_at }
+
+abbrev pub play : PairState → List Numbered → Play
+play w [] = record { lines = []; pairs = w ∷ []; stopped_at = None }
+play w (e ∷ es) = played_on w e.0 (happens w e.1) (λ after. play after es)
+
+-- in a play each pair fits, and no line is the fault InvalidState
+pub record IsSafePlay (p : Play) : Type 0 where
+  pub pairs : AllByRecursion PairFits p.pairs
+  pub in_place : AllByRecursion (λ l. l.1 ≢ line.Fault InvalidState) p.lines

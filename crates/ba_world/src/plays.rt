@@ -1,0 +1,11 @@
+//! The law of all plays of a pair.
+ghost use Rattle.std.specs.Prelude.{List};
+ghost use Rattle.ba_core.specs.declared.protocols.Protocol.{Protocol};
+ghost use Rattle.ba_world.specs.PairState.{start};
+ghost use Rattle.ba_world.specs.PairPlay.{Numbered, play, IsSafePlay};
+
+/// In every play, whatever its events, the two sides stay among the possible pairs, each message in the bag
+/// says what holds, and nothing arrives out of place.
+pub fn plays_stay_safe()
+    ensures { (protocol : Protocol) (events : List Numbered) → IsSafePlay (play (start protocol) events) }
+{}
