@@ -7,6 +7,8 @@ mod play;
 mod run;
 mod script;
 mod show;
+#[cfg(test)]
+mod tests;
 mod words;
 
 use ba_ports::{ReadSource, WriteSink};
