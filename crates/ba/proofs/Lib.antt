@@ -4,6 +4,7 @@ pub mod Decimals
 pub mod Due
 pub mod Feeds
 pub mod LineCases
+pub mod OneReading
 pub mod Progress
 pub mod Promised
 pub mod Streaming

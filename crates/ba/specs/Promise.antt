@@ -1,5 +1,6 @@
 -- What `run` promises of a replay, by its answer.
-use Rattle.std.specs.Prelude.{◌≡◌, ℕ, ◌+◌, ◌-◌, ◌⊎◌, IsTrue, List, [], ◌∷◌, ◌++◌, take, nat_eq, Option, None, Some}
+use Rattle.std.specs.Prelude.{◌≡◌, ℕ, ◌+◌, ◌-◌, ◌⊎◌, IsTrue, List, [], ◌∷◌, ◌++◌, take, nat_eq, codes, Option, None, Some}
+use Rattle.std.specs.Fmt.{decimal}
 use Rattle.std.specs.List.{list_any}
 use Rattle.std.specs.Io.KnownBytes.{Appends, Keeps}
 use Rattle.ba_core.specs.declared.protocols.Protocol.TheVariants.{Pc}
@@ -63,9 +64,9 @@ pub record WritesFront (input : List ℕ) (before now : Option (List ℕ)) : Typ
   pub written : WritesPart before now (shown (play (start Pc) events).lines)
   pub safe : IsSafePlay (play (start Pc) events)
 
--- The input is refused at its first bad line. Nothing was written, and little was read past the line.
-pub record RefusesLine (input : List ℕ) (rest before now : Option (List ℕ)) : Type 0 where
-  pub number : ℕ
+-- The input is refused at its first bad line, which has this number. Nothing was written, and little was read
+-- past the line.
+pub record RefusesLine (input : List ℕ) (number : ℕ) (rest before now : Option (List ℕ)) : Type 0 where
   pub bad : IsBadScript input number
   pub kept : Keeps before now
   pub taken : TakesAtMost (Some input) rest (bytes_of (take (number - 1) (lines_of input)) + lookahead)
@@ -79,16 +80,28 @@ pub record RefusesLength (input : List ℕ) (rest before now : Option (List ℕ)
 -- why a replay of this input ended early, and what it had written, where this was left to read
 abbrev pub Stops : List ℕ → Option (List ℕ) → Option (List ℕ) → Option (List ℕ) → RunFault → Type 0
 Stops input rest before now fault.Usage = ⊥
-Stops input rest before now (fault.BadLine number column) = RefusesLine input rest before now
+Stops input rest before now (fault.BadLine number column) = (column ≡ 0) × RefusesLine input number rest before now
 Stops input rest before now (fault.NoSuchMessage number) = WritesUpTo input number before now
 Stops input rest before now fault.Read = Keeps before now
 Stops input rest before now fault.Write = WritesFront input before now
 Stops input rest before now fault.Memory = WritesFront input before now ⊎ Keeps before now
 Stops input rest before now fault.Limit = RefusesLength input rest before now
 
--- the input or an event of it is refused
-abbrev pub Refuses : List ℕ → Option (List ℕ) → Option (List ℕ) → Option (List ℕ) → Type 0
-Refuses input rest before now = RefusesLine input rest before now ⊎ ((number : ℕ) × WritesUpTo input number before now)
+-- the note of a run that ended early
+abbrev pub note_text : RunFault → List ℕ
+note_text fault.Usage = codes "usage\n"
+note_text (fault.BadLine number column) = codes "line " ++ (decimal number ++ (codes " column " ++ (decimal column ++ codes "\n")))
+note_text (fault.NoSuchMessage number) = codes "line " ++ (decimal number ++ codes " no such message\n")
+note_text fault.Read = codes "read\n"
+note_text fault.Write = codes "write\n"
+note_text fault.Memory = codes "memory\n"
+note_text fault.Limit = codes "limit\n"
+
+-- the input or an event of it is refused, and the note, or a front of it, says at which line
+abbrev pub Refuses : List ℕ → Option (List ℕ) → Option (List ℕ) → Option (List ℕ) → Option (List ℕ) → Option (List ℕ) → Type 0
+Refuses input rest before now silent noted =
+    (number : ℕ) × ((RefusesLine input number rest before now × WritesPart silent noted (note_text (fault.BadLine number 0)))
+    ⊎ (WritesUpTo input number before now × WritesPart silent noted (note_text (fault.NoSuchMessage number))))
 
 -- the fault of a run whose script wasn't read
 abbrev pub unread : ScriptFault → RunFault
@@ -112,6 +125,10 @@ status_of fault.Read = 4
 status_of fault.Write = 5
 status_of fault.Memory = 6
 status_of fault.Limit = 7
+
+-- the note of an end with this status, or a front of it, was left
+abbrev pub NotesEnd : ℕ → Option (List ℕ) → Option (List ℕ) → Type 0
+NotesEnd status silent noted = (why : RunFault) × (status_of why ≡ status) × WritesPart silent noted (note_text why)
 
 -- the statuses of a run
 abbrev pub IsStatus : ℕ → Type 0

@@ -66,18 +66,18 @@ Says (Form Pc) line = line ≡ codes "pair pc"
 Says (Form Cc) line = ⊥
 Says (Event e) line = (line ≡ event_words e) × IsInRange e
 
--- only the first event line may choose the form
+-- only the first line that says something may choose the form
 abbrev pub MayStand : Bool → Reading → Type 0
 MayStand first (Form protocol) = IsTrue first
 MayStand first reading = Unit {0}
 
--- a line of a script, where `first` says that no event line came before
+-- a line of a script, where `first` means that no line before says anything
 pub record IsLine (first : Bool) (reading : Reading) (line : List ℕ) : Type 0 where
   pub short : length line ≤ most_bytes
   pub stands : MayStand first reading
   pub says : Says reading line
 
--- no event line came before the next line
+-- whether no line before the next one says anything
 abbrev pub first_after : Bool → Reading → Bool
 first_after first Nothing = first
 first_after first (Form protocol) = false

@@ -1,37 +1,38 @@
 //! The program's work, over whatever it reads from and writes to.
-ghost use Rattle.std.specs.Prelude.{◌≡◌, ◌≤◌, ◌⊎◌, ◌↔◌, IsTrue, IfErr, IfSome, OnOk, Ok, Err, None, map, string_bytes};
+ghost use Rattle.std.specs.Prelude.{◌≡◌, ◌≢◌, IfOk, ◌≤◌, ◌⊎◌, ◌↔◌, IsTrue, IfErr, IfSome, OnOk, Ok, Err, None, map, string_bytes};
 ghost use Rattle.std.specs.Io.KnownBytes.{Appends, IsAtEnd, Keeps};
 ghost use Rattle.ba_ports.specs.Causes.{Rose};
 ghost use Rattle.ba.specs.Taking.{TakesAtMost, most_taken};
+ghost use Rattle.ba.specs.Output.{WritesPart};
 ghost use Rattle.ba.specs.ScriptText.{IsBuilt};
 ghost use Rattle.ba.specs.Shown.{shown};
 ghost use Rattle.ba.specs.Words.{IsReplay};
-ghost use Rattle.ba.specs.Promise.{BreaksOff, play_of, WritesPlay, WritesFront, RefusesLength, Refuses, Stops, IsStatus, status_of, unread, unplayed};
+ghost use Rattle.ba.specs.Promise.{BreaksOff, play_of, WritesPlay, WritesFront, RefusesLength, Refuses, Stops, IsStatus, NotesEnd, note_text, status_of, unread, unplayed};
 
 use crate::output::write_all;
 use crate::play::{PlayFault, play_pair};
 use crate::script::{Script, ScriptFault, read_script};
 use crate::words::is_replay;
 use ba_ports::{Sink, Source};
-use std::alloc::Global;
+use std::alloc::{AllocError, Global};
 use thiserror::Error;
 
-/// Why a run ended early. Its text is the note that the run leaves.
+/// Why a run ended early.
 #[derive(Clone, Copy, Debug, PartialEq, Eq, Error)]
 pub enum RunFault {
-    #[error("usage")]
+    #[error("the words are no command line")]
     Usage,
     #[error("line {0} column {1}")]
     BadLine(u32, u32),
     #[error("line {0} no such message")]
     NoSuchMessage(u32),
-    #[error("read")]
+    #[error("the input can't be read")]
     Read,
-    #[error("write")]
+    #[error("the output can't be written")]
     Write,
-    #[error("memory")]
+    #[error("out of memory")]
     Memory,
-    #[error("limit")]
+    #[error("more than 100000 lines")]
     Limit,
 }
 
@@ -48,12 +49,17 @@ pub fn run<S: Source, K: Sink, N: Sink>(
     ensures known { IsStatus result }
     // 2: the words are no command line.
     ensures usage { (result ≡ 2) ↔ ¬ IsReplay (map string_bytes words.now) }
+    ensures untouched { result ≡ 2 → (source.new ≡ source.old) × (sink.new ≡ sink.old) }
     // 0: the input is a script, read to its end, and its play is written; each pair of the play is safe.
     ensures done { result ≡ 0 → IfSome (S.left source.old) (λ input. WritesPlay input (K.written sink.old) (K.written sink.new)) }
     ensures end { result ≡ 0 → IsAtEnd (S.left source.new) }
+    ensures silent { result ≡ 0 → notes.new ≡ notes.old }
+    // Else a note says why, or a front of it.
+    ensures noted { result ≢ 0 → NotesEnd result (N.written notes.old) (N.written notes.new) }
     // 3: the first bad line, and nothing is written; or the first event that can't be played, and the
-    // play up to it is written.
-    ensures refused { result ≡ 3 → IfSome (S.left source.old) (λ input. Refuses input (S.left source.new) (K.written sink.old) (K.written sink.new)) }
+    // play up to it is written. The note says at which line.
+    ensures refused { result ≡ 3 → IfSome (S.left source.old) (λ input. Refuses input (S.left source.new) (K.written sink.old) (K.written sink.new)
+        (N.written notes.old) (N.written notes.new)) }
     // 4: the source failed.
     ensures read { result ≡ 4 → Rose (S.faults source.old) (S.faults source.new) }
     ensures unread { result ≡ 4 → Keeps (K.written sink.old) (K.written sink.new) }
@@ -133,12 +139,38 @@ fn unplayed(fault: PlayFault) -> RunFault
 
 /// Leaves the note of a run that ended early, and answers its status. Faults of the notes are ignored.
 pub fn refuse<N: Sink>(alloc: Global, fault: RunFault, notes: &mut N) -> u8
-    ensures { result ≡ status_of fault }
+    ensures status { result ≡ status_of fault }
+    ensures note { WritesPart (N.written notes.old) (N.written notes.new) (note_text fault) }
 {
-    if let Ok(note) = format!(in alloc; "{fault}\n") {
-        let _ = write_all(notes, note.as_bytes());
-    }
+    leave_note(alloc, fault, notes);
     status_of(fault)
+}
+
+#[tactic(auto, using(crate::proofs::Promised::no_note))]
+fn leave_note<N: Sink>(alloc: Global, fault: RunFault, notes: &mut N)
+    ensures { WritesPart (N.written notes.old) (N.written notes.new) (note_text fault) }
+{
+    let Ok(note) = note_of(alloc, fault) else {
+        return;
+    };
+    let _ = write_all(notes, note.as_bytes());
+}
+
+// The note of a run that ended early.
+fn note_of(alloc: Global, fault: RunFault) -> Result<String, AllocError>
+    ensures { IfOk result (λ note. string_bytes note ≡ note_text fault) }
+{
+    match fault {
+        RunFault::Usage => String::from_str(alloc, "usage\n"),
+        RunFault::BadLine(number, column) => {
+            format!(in alloc; "line {number} column {column}\n")
+        }
+        RunFault::NoSuchMessage(number) => format!(in alloc; "line {number} no such message\n"),
+        RunFault::Read => String::from_str(alloc, "read\n"),
+        RunFault::Write => String::from_str(alloc, "write\n"),
+        RunFault::Memory => String::from_str(alloc, "memory\n"),
+        RunFault::Limit => String::from_str(alloc, "limit\n"),
+    }
 }
 
 // The status of a run that ended early.

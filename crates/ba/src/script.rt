@@ -1,10 +1,12 @@
 //! Scripts of a pair's events: what they are made of, and why one is refused.
 
+mod laws;
 mod lines;
 mod numbers;
 mod reader;
 mod words;
 
+pub use laws::scripts_mean_one_thing;
 pub use reader::read_script;
 
 #[cfg(test)]

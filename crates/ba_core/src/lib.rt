@@ -18,3 +18,6 @@ pub use notices::{Act, Leave, Notice, code_of, name_of};
 pub use protocols::{Kind, Protocol, Side, Verdict};
 pub use rows::{CRow, PRow};
 pub use states::{CState, How, PState, StateName, c_name, p_name};
+
+#[cfg(test)]
+mod tests;

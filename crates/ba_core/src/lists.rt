@@ -97,11 +97,11 @@ impl<T: PartialEq> PartialEq for List<T> {
 }
 
 impl List<u8> {
-    /// An equal list.
-    pub fn copy(&self, alloc: Global) -> Result<Octets, Memory>
+    /// An equal list, whose memory comes from where this one's does.
+    pub fn copy(&self) -> Result<Octets, Memory>
         ensures { IfOk result (λ copy. copy ≡ self.now) }
     {
-        match Vec::from_slice(alloc, self.as_slice()) {
+        match Vec::from_slice(*self.items.allocator(), self.as_slice()) {
             Ok(items) => Ok(List { items }),
             Err(_) => Err(Memory),
         }

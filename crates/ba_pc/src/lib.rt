@@ -8,3 +8,6 @@ mod part;
 pub use ba_core::{CRow, PRow};
 pub use end::{c_choose, c_receive, c_tick};
 pub use part::{p_act, p_receive, p_says};
+
+#[cfg(test)]
+mod tests;

@@ -8,8 +8,8 @@ use Rattle.ba_world.specs.PairPlay.{Numbered, Outcome, Play, IsSafePlay, happens
 use Rattle.ba_world.proofs.Steps.{step_steps, steps_fit}
 
 start_fits : (p : Protocol) → PairFits (start p)
-start_fits Pc = record { link = record { pair = refl; verdict = refl; messages = tt }; enrolled = λ e. cc; rows = tt }
-start_fits Cc = record { link = record { pair = refl; verdict = refl; messages = tt }; enrolled = λ e. cc; rows = tt }
+start_fits Pc = record { link = record { pair = refl; verdict = refl; messages = tt }; enrolled = λ e. cc; columns = tt }
+start_fits Cc = record { link = record { pair = refl; verdict = refl; messages = tt }; enrolled = λ e. cc; columns = tt }
 
 -- a play goes on from an event as its rest does
 goes_on : (w : PairState) (number : ℕ) (e : PairEvent) (rest : PairState → Play) → PairFits w → ((next : PairState) → PairFits next → IsSafePlay (rest next))

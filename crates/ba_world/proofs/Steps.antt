@@ -51,12 +51,12 @@ unsent : (w : PairState) → map message_of w.bag ≡ map message_of w.bag ++ []
 unsent w = sym (append-nil (map message_of w.bag))
 
 acted_steps : (w : PairState) (a : Act) → PairFits w → (answer : Option PState) → acted_state w.protocol w.part a ≡ answer → Steps w (acted w answer)
-acted_steps w a fits None h = record { moves = inl refl; protocol = refl; enrolled = fits.enrolled; columns = fits.rows; in_place = λ e. cc }
+acted_steps w a fits None h = record { moves = inl refl; protocol = refl; enrolled = fits.enrolled; columns = fits.columns; in_place = λ e. cc }
 acted_steps w a fits (Some next) h = record {
   moves = inr (record { move = link.acts a; joined = true; message = None; heard = tt; moves = ap (λ o. link.acted (state_of w) o) h; sent = unsent w });
   protocol = refl;
   enrolled = acted_enrolled w.protocol w.part a next h;
-  columns = fits.rows;
+  columns = fits.columns;
   in_place = λ e. cc;
 }
 
@@ -97,7 +97,7 @@ end_ticked_steps w fits = record {
   });
   protocol = refl;
   enrolled = fits.enrolled;
-  columns = all_joined (λ n. IsTrue (is_column n)) w.bag (option_to_list (end_tick w.end).1) fits.rows (end_says_columns w.end);
+  columns = all_joined (λ n. IsTrue (is_column n)) w.bag (option_to_list (end_tick w.end).1) fits.columns (end_says_columns w.end);
   in_place = λ e. cc;
 }
 
@@ -132,13 +132,13 @@ part_ticked_steps w fits = record {
   });
   protocol = refl;
   enrolled = fits.enrolled;
-  columns = all_joined (λ n. IsTrue (is_column n)) w.bag (option_to_list (part_says w.part)) fits.rows (part_speaks_columns w.part);
+  columns = all_joined (λ n. IsTrue (is_column n)) w.bag (option_to_list (part_says w.part)) fits.columns (part_speaks_columns w.part);
   in_place = λ e. cc;
 }
 
 chosen_steps : (w : PairState) (v : Verdict) → PairFits w → (before : Option Verdict) → w.verdict ≡ before → (next : Option CState) → chosen_state w.protocol w.end v ≡ next → Steps w (chosen w v before next)
-chosen_steps w v fits (Some before) g next h = record { moves = inl refl; protocol = refl; enrolled = fits.enrolled; columns = fits.rows; in_place = λ e. cc }
-chosen_steps w v fits None g None h = record { moves = inl refl; protocol = refl; enrolled = fits.enrolled; columns = fits.rows; in_place = λ e. cc }
+chosen_steps w v fits (Some before) g next h = record { moves = inl refl; protocol = refl; enrolled = fits.enrolled; columns = fits.columns; in_place = λ e. cc }
+chosen_steps w v fits None g None h = record { moves = inl refl; protocol = refl; enrolled = fits.enrolled; columns = fits.columns; in_place = λ e. cc }
 chosen_steps w v fits None g (Some next) h = record {
   moves = inr (record {
     move = link.chooses v;
@@ -150,13 +150,13 @@ chosen_steps w v fits None g (Some next) h = record {
   });
   protocol = refl;
   enrolled = fits.enrolled;
-  columns = fits.rows;
+  columns = fits.columns;
   in_place = λ e. cc;
 }
 
 completed_steps : (w : PairState) → PairFits w → (before : Option Verdict) → w.verdict ≡ before → (next : Option CState) → completed_state w.protocol w.end ≡ next → Steps w (completed w before next)
-completed_steps w fits (Some before) g next h = record { moves = inl refl; protocol = refl; enrolled = fits.enrolled; columns = fits.rows; in_place = λ e. cc }
-completed_steps w fits None g None h = record { moves = inl refl; protocol = refl; enrolled = fits.enrolled; columns = fits.rows; in_place = λ e. cc }
+completed_steps w fits (Some before) g next h = record { moves = inl refl; protocol = refl; enrolled = fits.enrolled; columns = fits.columns; in_place = λ e. cc }
+completed_steps w fits None g None h = record { moves = inl refl; protocol = refl; enrolled = fits.enrolled; columns = fits.columns; in_place = λ e. cc }
 completed_steps w fits None g (Some next) h = record {
   moves = inr (record {
     move = link.completes;
@@ -169,7 +169,7 @@ completed_steps w fits None g (Some next) h = record {
   });
   protocol = refl;
   enrolled = fits.enrolled;
-  columns = fits.rows;
+  columns = fits.columns;
   in_place = λ e. cc;
 }
 
@@ -188,7 +188,7 @@ part_received_steps w n fits column sent (prow.Row next prompt) h = record {
   });
   protocol = refl;
   enrolled = row_enrolled w.protocol w.part n next prompt fits.enrolled h;
-  columns = fits.rows;
+  columns = fits.columns;
   in_place = λ e. cc;
 }
 
@@ -209,7 +209,7 @@ end_received_steps w n fits column sent (crow.Row next prompt) h = record {
   });
   protocol = refl;
   enrolled = fits.enrolled;
-  columns = fits.rows;
+  columns = fits.columns;
   in_place = λ e. cc;
 }
 
@@ -233,7 +233,7 @@ delivered_steps w number fits None g o h = absurd cc
 delivered_steps w number fits (Some n) g o h =
     let there = found_at w.bag (number - 1) n (nat_eq number 0) g in
     subst (Steps w) (some_is h) (received_steps w n fits
-    (all_at (λ n. IsTrue (is_column n)) w.bag (number - 1) n fits.rows there)
+    (all_at (λ n. IsTrue (is_column n)) w.bag (number - 1) n fits.columns there)
     (sent_at message_of w.bag (number - 1) n there) (is_for_part n) refl)
 
 -- what an event leads to, if it leads to something
@@ -253,7 +253,7 @@ pub steps_fit : (w : PairState) (o : Outcome) → PairFits w → Steps w o → P
 steps_fit w o fits steps = record {
   link = elim steps.moves [ inl same ↦ subst LinkFits (sym same) fits.link | inr step ↦ links_stay_possible (link_of w) (link_of o.0) step fits.link ];
   enrolled = steps.enrolled;
-  rows = steps.columns;
+  columns = steps.columns;
 }
 
 -- what a call of a step ensures, at its result

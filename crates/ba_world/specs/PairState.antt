@@ -51,7 +51,7 @@ link_of w = record { state = state_of w; sent = map message_of w.bag }
 pub record PairFits (w : PairState) : Type 0 where
   pub link : LinkFits (link_of w)
   pub enrolled : w.part ≢ part.Registering
-  pub rows : AllByRecursion (λ n. IsTrue (is_column n)) w.bag
+  pub columns : AllByRecursion (λ n. IsTrue (is_column n)) w.bag
 
 -- what an event makes of a pair: nothing, or a move of its link
 abbrev pub IsMove : PairState → PairState → Type 0

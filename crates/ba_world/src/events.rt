@@ -12,7 +12,7 @@ pub enum PairEvent {
     Tick(Side),
     /// This verdict is set on the coordinator's end.
     Choose(Verdict),
-    /// The participant is asked to complete.
+    /// The participant is asked to complete, which ParticipantCompletion refuses.
     Complete,
     /// The bag's message with this number, from 1, arrives. It stays in the bag.
     Deliver(u64),

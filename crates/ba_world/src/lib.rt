@@ -12,3 +12,6 @@ pub use events::{PairEvent, StepFault};
 pub use lines::Line;
 pub use pairs::Pair;
 pub use plays::plays_stay_safe;
+
+#[cfg(test)]
+mod tests;

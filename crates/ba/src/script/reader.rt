@@ -65,7 +65,7 @@ fn add(events: &mut List<(u32, PairEvent)>, reading: Reading, number: u32) -> Re
     }
 }
 
-// Whether no event line came yet, after a line that says this.
+// Whether no line says anything yet, after a line that says this.
 fn still_first(first: bool, reading: Reading) -> bool
     ensures { result ≡ first_after first reading }
 {

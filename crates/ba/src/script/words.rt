@@ -11,7 +11,7 @@ use super::{MOST_BYTES, Reading};
 use ba_core::{Act, Protocol, Side, Verdict};
 use ba_world::PairEvent;
 
-/// What the line says, where `first` means that no event line came before. None where no line of a
+/// What the line says, where `first` means that no line before says anything. None where no line of a
 /// script is such.
 #[tactic(auto, using(crate::proofs::LineCases::bad_line))]
 pub fn reading_of(line: &[u8], first: bool) -> Option<Reading>
