@@ -12,7 +12,10 @@ pub struct Id(pub u128);
 impl Id {
     /// The identifier of a node's object.
     pub fn of(node: u32, counter: u64) -> Id
-        ensures { result.0 ≡ id_of node counter }
+        ensures id { result.0 ≡ id_of node counter }
+        ensures node { node_of result.0 ≡ node }
+        ensures counter { counter_of result.0 ≡ counter }
+        ensures code { code_part result.0 ≡ 0 }
     {
         Id(u128::from(node) * 18_446_744_073_709_551_616 + u128::from(counter))
     }

@@ -1,6 +1,6 @@
 -- The play of a pair's events: what each event leads to, and what it shows. Choosing is that of an end
 -- alone in a root scope of MixedOutcome; each message that is sent joins the bag.
-use Rattle.std.specs.Prelude.{◌≢◌, ℕ, ◌-◌, List, [], ◌∷◌, ◌++◌, length, slice_get, nat_eq, Option, None, Some, if◌then◌else◌}
+use Rattle.std.specs.Prelude.{◌≢◌, ℕ, ◌-◌, List, [], ◌∷◌, ◌++◌, length, slice_get, nat_eq, Bool, false, Option, None, Some, is_some, if◌then◌else◌}
 use Rattle.std.specs.Option.{option_to_list}
 use Rattle.std.specs.List.{AllByRecursion}
 use Rattle.ba_core.specs.EndRows.{end_row, end_tick, chosen_state, completed_state}
@@ -82,6 +82,12 @@ happens w (Tick Participant) = Some (part_ticked w (part_says w.part))
 happens w (Choose v) = Some (chosen w v w.verdict (chosen_state w.protocol w.end v))
 happens w Complete = Some (completed w w.verdict (completed_state w.protocol w.end))
 happens w (Deliver number) = delivered w (message_at w.bag number)
+
+-- by the event a message joins the bag
+abbrev pub speaks : PairState → PairEvent → Bool
+speaks w (Tick Coordinator) = is_some (end_tick w.end).1
+speaks w (Tick Participant) = is_some (part_says w.part)
+speaks w e = false
 
 -- an event and the number of its line in the script
 abbrev pub Numbered : Type 0

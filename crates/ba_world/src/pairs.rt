@@ -1,5 +1,5 @@
 //! A pair: a coordinator's end and its participant, with the bag of all messages between them.
-ghost use Rattle.std.specs.Prelude.{◌≡◌, ◌≢◌, ◌↔◌, ◌^◌, ◌<◌, IsTrue, IfOk, IfSome, IfNone, OnOk, OnErr, Ok, Err, Some, None, length, ◌++◌, ◌⊎◌, true};
+ghost use Rattle.std.specs.Prelude.{◌≡◌, ◌≢◌, ◌↔◌, ◌^◌, ◌<◌, IsTrue, is_some, IfOk, IfSome, IfNone, OnOk, OnErr, Ok, Err, Some, None, length, ◌++◌, ◌⊎◌, true};
 ghost use Rattle.ba_core.specs.EndRows.{end_row, end_tick, chosen_state, completed_state, is_end_state};
 ghost use Rattle.ba_core.specs.PartRows.{part_row, part_says, acted_state, is_part_state};
 ghost use Rattle.ba_core.specs.Messages.{is_column};
@@ -40,7 +40,7 @@ fn refused(number: u8) -> Line
 impl Sides {
     ghost use Rattle.ba_link.specs.Link.{settled};
     ghost use Rattle.ba_world.specs.PairState.{PairFits};
-    ghost use Rattle.ba_world.specs.PairPlay.{seen, acted, end_ticked, part_ticked, chosen, completed, end_received, part_received, received, delivered, message_at, happens};
+    ghost use Rattle.ba_world.specs.PairPlay.{seen, acted, end_ticked, part_ticked, chosen, completed, end_received, part_received, received, delivered, message_at, happens, speaks};
 
     fn seen(&self) -> Line
         ensures { (self.now, result) ≡ seen self.now }
@@ -70,6 +70,7 @@ impl Sides {
     fn say(&mut self, said: Option<Notice>) -> Result<(), StepFault>
         ensures said { OnOk result (self.new ≡ record self.old { bag = self.old.bag ++ option_to_list said }) }
         ensures err { OnErr result (result ≡ Err StepFault.Memory) }
+        ensures spoken { OnErr result (IsTrue (is_some said)) }
         ensures unchanged { OnErr result (self.new ≡ self.old) }
     {
         if let Some(notice) = said {
@@ -85,6 +86,7 @@ impl Sides {
         requires end { IsTrue (is_end_state self.old.protocol self.old.end) }
         ensures ticked { IfOk result (λ line. (self.new, line) ≡ end_ticked self.old (end_tick self.old.end)) }
         ensures err { OnErr result (result ≡ Err StepFault.Memory) }
+        ensures spoken { OnErr result (IsTrue (is_some (end_tick self.old.end).1)) }
         ensures unchanged { OnErr result (self.new ≡ self.old) }
     {
         let (next, said) = tables::c_tick(self.protocol, self.end);
@@ -98,6 +100,7 @@ impl Sides {
         requires part { IsTrue (is_part_state self.old.protocol self.old.part) }
         ensures ticked { IfOk result (λ line. (self.new, line) ≡ part_ticked self.old (part_says self.old.part)) }
         ensures err { OnErr result (result ≡ Err StepFault.Memory) }
+        ensures spoken { OnErr result (IsTrue (is_some (part_says self.old.part))) }
         ensures unchanged { OnErr result (self.new ≡ self.old) }
     {
         self.say(tables::p_says(self.protocol, self.part))?;
@@ -210,6 +213,7 @@ impl Sides {
         requires fits { PairFits self.old }
         ensures step { IfOk result (λ line. happens self.old e ≡ Some (self.new, line)) }
         ensures none { (result ≡ Err StepFault.NoSuchMessage) ↔ (happens self.old e ≡ None) }
+        ensures memory { (result ≡ Err StepFault.Memory) → IsTrue (speaks self.old e) }
         ensures unchanged { OnErr result (self.new ≡ self.old) }
     {
         match e {
@@ -275,7 +279,7 @@ pub struct Pair {
 
 impl Pair {
     ghost use Rattle.ba_world.specs.PairState.{start, PairFits, IsMove};
-    ghost use Rattle.ba_world.specs.PairPlay.{happens};
+    ghost use Rattle.ba_world.specs.PairPlay.{happens, speaks};
 
     /// A pair at its start: both sides are Active, and the bag is empty.
     /// For now only ParticipantCompletion can be played.
@@ -302,6 +306,8 @@ impl Pair {
     pub fn step(&mut self, e: &PairEvent) -> Result<Line, StepFault>
         ensures step { IfOk result (λ line. happens self.old e.now ≡ Some (self.new, line)) }
         ensures none { (result ≡ Err StepFault.NoSuchMessage) ↔ (happens self.old e.now ≡ None) }
+        // Memory is wanted only for a message that joins the bag.
+        ensures memory { (result ≡ Err StepFault.Memory) → IsTrue (speaks self.old e.now) }
         ensures unchanged { OnErr result (self.new ≡ self.old) }
         // An event that is played is a move of the link, or changes nothing.
         ensures moves { OnOk result (IsMove self.old self.new) }
