@@ -7,7 +7,7 @@ use Rattle.ba_world.specs.PairState.{PairState, PairFits, start}
 use Rattle.ba_world.specs.PairPlay.{Numbered, Outcome, Play, IsSafePlay, happens, play, played_on}
 use Rattle.ba_world.proofs.Steps.{step_steps, steps_fit}
 
-start_fits : (p : Protocol) → PairFits (start p)
+pub start_fits : (p : Protocol) → PairFits (start p)
 start_fits Pc = record { link = record { pair = refl; verdict = refl; messages = tt }; enrolled = λ e. cc; columns = tt }
 start_fits Cc = record { link = record { pair = refl; verdict = refl; messages = tt }; enrolled = λ e. cc; columns = tt }
 

@@ -29,13 +29,23 @@ Outcome = PairState × Line
 abbrev pub seen : PairState → Outcome
 seen w = (w, line.Pair w.end w.part (length w.bag))
 
--- a refusal changes nothing; 34: there is a verdict already, 35: the end isn't ready for that verdict,
--- 43: the state doesn't let it
+-- the numbers of refusals: there is a verdict already; the end isn't ready for that verdict; the state doesn't
+-- let it
+abbrev pub already_decided : ℕ
+already_decided = 34
+
+abbrev pub not_ready : ℕ
+not_ready = 35
+
+abbrev pub wrong_state : ℕ
+wrong_state = 43
+
+-- a refusal changes nothing
 abbrev pub refused : PairState → ℕ → Outcome
 refused w number = (w, line.Refused number None)
 
 abbrev pub acted : PairState → Option PState → Outcome
-acted w None = refused w 43
+acted w None = refused w wrong_state
 acted w (Some next) = seen (record w { part = next })
 
 abbrev pub end_ticked : PairState → CState × Option Notice → Outcome
@@ -45,13 +55,13 @@ abbrev pub part_ticked : PairState → Option Notice → Outcome
 part_ticked w said = seen (record w { bag = w.bag ++ option_to_list said })
 
 abbrev pub chosen : PairState → Verdict → Option Verdict → Option CState → Outcome
-chosen w v (Some before) next = refused w 34
-chosen w v None None = refused w 35
+chosen w v (Some before) next = refused w already_decided
+chosen w v None None = refused w not_ready
 chosen w v None (Some next) = seen (record w { end = next; verdict = Some v })
 
 abbrev pub completed : PairState → Option Verdict → Option CState → Outcome
-completed w (Some before) next = refused w 34
-completed w None None = refused w 43
+completed w (Some before) next = refused w already_decided
+completed w None None = refused w wrong_state
 completed w None (Some next) = seen (record w { end = next })
 
 -- a notice without a row is answered by the fault InvalidState, and changes nothing

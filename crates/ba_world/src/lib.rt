@@ -6,6 +6,7 @@ mod events;
 mod lines;
 mod pairs;
 mod plays;
+mod sides;
 mod tables;
 
 pub use events::{PairEvent, StepFault};
