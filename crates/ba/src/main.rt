@@ -2,6 +2,7 @@
 //! streams and the words of the command line, and nothing else.
 #![tactic(auto)]
 
+mod command;
 mod output;
 mod play;
 mod run;
@@ -9,7 +10,6 @@ mod script;
 mod show;
 #[cfg(test)]
 mod tests;
-mod words;
 
 use ba_ports::{ReadSource, WriteSink};
 use run::{RunFault, refuse, run};

@@ -1,5 +1,5 @@
 //! Plays the events of a pair, and writes the line of each.
-ghost use Rattle.std.specs.Prelude.{◌≡◌, ◌≤◌, ◌⊎◌, ◌++◌, [], IsTrue, IfErr, OnOk, OnErr, Ok, Err, Some, None};
+ghost use Rattle.std.specs.Prelude.{◌≡◌, ◌<◌, ◌≤◌, length, ◌⊎◌, ◌++◌, [], IsTrue, IfErr, OnOk, OnErr, Ok, Err, Some, None};
 ghost use Rattle.std.specs.Io.KnownBytes.{Appends};
 ghost use Rattle.ba_core.specs.declared.protocols.Protocol.{Protocol};
 ghost use Rattle.ba_ports.specs.Causes.{Rose};
@@ -31,9 +31,9 @@ pub enum PlayFault {
 }
 
 // Lines go to the sink once they are so many bytes.
-const BLOCK: usize = 65_536;
+const FULL: usize = 65_536;
 
-/// Plays the events from the start of a pair, and writes their lines. All lines before an event that can't
+/// Plays the events from the start of a pair, of ParticipantCompletion for now, and writes their lines. All lines before an event that can't
 /// be played are out when it ends; after another fault a front of them is.
 pub fn play_pair<K: Sink>(
     alloc: Global,
@@ -101,11 +101,12 @@ fn play_event<K: Sink>(
 #[tactic(auto, using(crate::proofs::Due::writes_none, crate::proofs::Due::writes_all))]
 fn write_full<K: Sink>(text: &mut Octets, sink: &mut K) -> Result<(), NotWritten>
     ensures written { OnOk result (Writes (K.written sink.old) text.old (K.written sink.new) text.new) }
+    ensures short { OnOk result (length text.new < FULL) }
     ensures part { OnErr result (WritesPart (K.written sink.old) (K.written sink.new) text.old) }
     ensures cause { OnErr result (Rose (K.faults sink.old) (K.faults sink.new) ⊎ IsTrue (K.took_nothing sink.new)) }
     ensures later { K.faults sink.old ≤ K.faults sink.new }
 {
-    if text.len() < BLOCK {
+    if text.len() < FULL {
         return Ok(());
     }
     match write_all(sink, text.as_slice()) {

@@ -1,18 +1,18 @@
 //! The program's work, over whatever it reads from and writes to.
-ghost use Rattle.std.specs.Prelude.{◌≡◌, ◌≢◌, IfOk, ◌≤◌, ◌⊎◌, ◌↔◌, IsTrue, IfErr, IfSome, OnOk, Ok, Err, None, map, string_bytes};
+ghost use Rattle.std.specs.Prelude.{◌≡◌, ◌≢◌, IfOk, ◌≤◌, ◌⊎◌, ◌↔◌, IsTrue, IfErr, IfSome, OnOk, Err, None, map, string_bytes};
 ghost use Rattle.std.specs.Io.KnownBytes.{Appends, IsAtEnd, Keeps};
 ghost use Rattle.ba_ports.specs.Causes.{Rose};
 ghost use Rattle.ba.specs.Taking.{TakesAtMost, most_taken};
 ghost use Rattle.ba.specs.Output.{WritesPart};
 ghost use Rattle.ba.specs.ScriptText.{IsBuilt};
 ghost use Rattle.ba.specs.Shown.{shown};
-ghost use Rattle.ba.specs.Words.{IsReplay};
+ghost use Rattle.ba.specs.Command.{IsReplay};
 ghost use Rattle.ba.specs.Promise.{BreaksOff, play_of, WritesPlay, WritesFront, RefusesLength, Refuses, Stops, IsStatus, NotesEnd, note_text, status_of, unread, unplayed};
 
+use crate::command::is_replay;
 use crate::output::write_all;
 use crate::play::{PlayFault, play_pair};
 use crate::script::{Script, ScriptFault, read_script};
-use crate::words::is_replay;
 use ba_ports::{Sink, Source};
 use std::alloc::{AllocError, Global};
 use thiserror::Error;
@@ -60,13 +60,13 @@ pub fn run<S: Source, K: Sink, N: Sink>(
     // play up to it is written. The note says at which line.
     ensures refused { result ≡ 3 → IfSome (S.left source.old) (λ input. Refuses input (S.left source.new) (K.written sink.old) (K.written sink.new)
         (N.written notes.old) (N.written notes.new)) }
-    // 4: the source failed.
+    // 4: the source failed, and nothing is written.
     ensures read { result ≡ 4 → Rose (S.faults source.old) (S.faults source.new) }
-    ensures unread { result ≡ 4 → Keeps (K.written sink.old) (K.written sink.new) }
+    ensures unwritten { result ≡ 4 → Keeps (K.written sink.old) (K.written sink.new) }
     // 5: the sink failed, or took nothing of what wasn't empty.
     ensures write { result ≡ 5 → Rose (K.faults sink.old) (K.faults sink.new) ⊎ IsTrue (K.took_nothing sink.new) }
     ensures part { result ≡ 5 → IfSome (S.left source.old) (λ input. WritesFront input (K.written sink.old) (K.written sink.new)) }
-    // 6: want of memory.
+    // 6: want of memory, which may come at any time.
     ensures memory { result ≡ 6 → IfSome (S.left source.old) (λ input. WritesFront input (K.written sink.old) (K.written sink.new) ⊎ Keeps (K.written sink.old) (K.written sink.new)) }
     // 7: more lines than a script may have.
     ensures limit { result ≡ 7 → IfSome (S.left source.old) (λ input. RefusesLength input (S.left source.new) (K.written sink.old) (K.written sink.new)) }
@@ -89,7 +89,7 @@ fn replay<S: Source, K: Sink>(alloc: Global, source: &mut S, sink: &mut K) -> Re
     ensures stops { IfErr result (λ fault. IfSome (S.left source.old) (λ input. Stops input (S.left source.new) (K.written sink.old) (K.written sink.new) fault)) }
     ensures words { (result ≡ Err RunFault.Usage) → ⊥ }
     ensures read { (result ≡ Err RunFault.Read) → Rose (S.faults source.old) (S.faults source.new) }
-    ensures unread { (result ≡ Err RunFault.Read) → Keeps (K.written sink.old) (K.written sink.new) }
+    ensures unwritten { (result ≡ Err RunFault.Read) → Keeps (K.written sink.old) (K.written sink.new) }
     ensures write { (result ≡ Err RunFault.Write) → Rose (K.faults sink.old) (K.faults sink.new) ⊎ IsTrue (K.took_nothing sink.new) }
     ensures bounded { TakesAtMost (S.left source.old) (S.left source.new) most_taken }
 {

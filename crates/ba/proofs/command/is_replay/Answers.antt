@@ -1,5 +1,5 @@
 use Rattle.std.proofs.Common.{◌≡◌, ℕ, List, [], ◌∷◌, length, map, string_bytes, get_or, sym, ap, arith}
-use Rattle.ba.proofs.words.is_replay.Goals as goal
+use Rattle.ba.proofs.command.is_replay.Goals as goal
 
 one_word : {A : Type 0} (f : A → List ℕ) (xs : List A) (x : A) → length xs ≡ 1 → x ≡ get_or xs 0 x → map f xs ≡ f x ∷ []
 one_word f [] x h e = absurd (omega arith)

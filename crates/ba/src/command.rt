@@ -1,6 +1,6 @@
 //! The words of a command line.
 ghost use Rattle.std.specs.Prelude.{◌≡◌, ◌↔◌, IsTrue, codes, map, string_bytes};
-ghost use Rattle.ba.specs.Words.{IsReplay};
+ghost use Rattle.ba.specs.Command.{IsReplay};
 
 /// Whether the words are those of `replay`.
 pub fn is_replay(words: &[String]) -> bool
