@@ -112,10 +112,6 @@ pub record IsPairScript (text : List ℕ) (events : List Numbered) : Type 0 wher
   pub few : length (lines_of text) ≤ most_lines
   pub means : Means true 1 (lines_of text) events
 
--- the script's form can be played by now
-abbrev pub IsBuilt : Script → Type 0
-IsBuilt (Pair protocol events) = protocol ≡ Pc
-
 -- the text is this script
 abbrev pub IsScript : List ℕ → Script → Type 0
 IsScript text (Pair Pc events) = IsPairScript text events

@@ -1,7 +1,6 @@
 //! Plays the events of a pair, and writes the line of each.
 ghost use Rattle.std.specs.Prelude.{◌≡◌, ◌<◌, ◌≤◌, length, ◌⊎◌, ◌++◌, [], IsTrue, IfErr, OnOk, OnErr, Ok, Err, Some, None};
 ghost use Rattle.std.specs.Io.KnownBytes.{Appends};
-ghost use Rattle.ba_core.specs.declared.protocols.Protocol.{Protocol};
 ghost use Rattle.ba_ports.specs.Causes.{Rose};
 ghost use Rattle.ba_world.specs.declared.lines.Line.{Line};
 ghost use Rattle.ba_world.specs.PairState.{start};
@@ -33,15 +32,14 @@ pub enum PlayFault {
 // Lines go to the sink once they are so many bytes.
 const FULL: usize = 65_536;
 
-/// Plays the events from the start of a pair, of ParticipantCompletion for now, and writes their lines. All lines before an event that can't
-/// be played are out when it ends; after another fault a front of them is.
+/// Plays the events from the start of a pair with this protocol, and writes their lines. All lines
+/// before an event that can't be played are out when it ends; after another fault a front of them is.
 pub fn play_pair<K: Sink>(
     alloc: Global,
     protocol: Protocol,
     events: &[(u32, PairEvent)],
     sink: &mut K,
 ) -> Result<(), PlayFault>
-    requires { protocol ≡ Protocol.Pc }
     ensures whole { OnOk result ((play (start protocol) events.now).stopped_at ≡ None) }
     ensures written { OnOk result (Appends (K.written sink.old) (K.written sink.new) (shown (play (start protocol) events.now).lines)) }
     ensures broken { IfErr result (BreaksOff (play (start protocol) events.now) (K.written sink.old) (K.written sink.new)) }

@@ -4,7 +4,6 @@ ghost use Rattle.std.specs.Io.KnownBytes.{Appends, IsAtEnd, Keeps};
 ghost use Rattle.ba_ports.specs.Causes.{Rose};
 ghost use Rattle.ba.specs.Taking.{TakesAtMost, most_taken};
 ghost use Rattle.ba.specs.Output.{WritesPart};
-ghost use Rattle.ba.specs.ScriptText.{IsBuilt};
 ghost use Rattle.ba.specs.Shown.{shown};
 ghost use Rattle.ba.specs.Command.{IsReplay};
 ghost use Rattle.ba.specs.Promise.{BreaksOff, play_of, WritesPlay, WritesFront, RefusesLength, Refuses, Stops, IsStatus, NotesEnd, note_text, status_of, unread, unplayed};
@@ -104,7 +103,6 @@ fn replay<S: Source, K: Sink>(alloc: Global, source: &mut S, sink: &mut K) -> Re
 
 // Plays a script, and writes its lines.
 fn play_script<K: Sink>(alloc: Global, script: Script, sink: &mut K) -> Result<(), PlayFault>
-    requires { IsBuilt script }
     ensures whole { OnOk result ((play_of script).stopped_at ≡ None) }
     ensures written { OnOk result (Appends (K.written sink.old) (K.written sink.new) (shown (play_of script).lines)) }
     ensures broken { IfErr result (BreaksOff (play_of script) (K.written sink.old) (K.written sink.new)) }

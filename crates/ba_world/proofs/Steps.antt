@@ -37,7 +37,6 @@ use Rattle.ba_world.proofs.Bags.{map-joined, all_joined, all_at, sent_at}
 -- an outcome of an event at a pair
 pub record Steps (w : PairState) (o : Outcome) : Type 0 where
   pub moves : IsMove w o.0
-  pub protocol : o.0.protocol ≡ w.protocol
   pub enrolled : o.0.part ≢ part.Registering
   pub columns : AllByRecursion (λ n. IsTrue (is_column n)) o.0.bag
   pub in_place : o.1 ≢ line.Fault InvalidState
@@ -51,10 +50,9 @@ unsent : (w : PairState) → map message_of w.bag ≡ map message_of w.bag ++ []
 unsent w = sym (append-nil (map message_of w.bag))
 
 acted_steps : (w : PairState) (a : Act) → PairFits w → (answer : Option PState) → acted_state w.protocol w.part a ≡ answer → Steps w (acted w answer)
-acted_steps w a fits None h = record { moves = inl refl; protocol = refl; enrolled = fits.enrolled; columns = fits.columns; in_place = λ e. cc }
+acted_steps w a fits None h = record { moves = inl refl; enrolled = fits.enrolled; columns = fits.columns; in_place = λ e. cc }
 acted_steps w a fits (Some next) h = record {
   moves = inr (record { move = link.acts a; joined = true; message = None; heard = tt; moves = ap (λ o. link.acted (state_of w) o) h; sent = unsent w });
-  protocol = refl;
   enrolled = acted_enrolled w.protocol w.part a next h;
   columns = fits.columns;
   in_place = λ e. cc;
@@ -95,7 +93,6 @@ end_ticked_steps w fits = record {
     moves = refl;
     sent = map-joined message_of w.bag (end_tick w.end).1 ∙ ap (λ said. map message_of w.bag ++ said) (end_says w.end);
   });
-  protocol = refl;
   enrolled = fits.enrolled;
   columns = all_joined (λ n. IsTrue (is_column n)) w.bag (option_to_list (end_tick w.end).1) fits.columns (end_says_columns w.end);
   in_place = λ e. cc;
@@ -130,15 +127,14 @@ part_ticked_steps w fits = record {
     moves = refl;
     sent = map-joined message_of w.bag (part_says w.part) ∙ ap (λ said. map message_of w.bag ++ said) (sym (part_speaks w.part fits.enrolled));
   });
-  protocol = refl;
   enrolled = fits.enrolled;
   columns = all_joined (λ n. IsTrue (is_column n)) w.bag (option_to_list (part_says w.part)) fits.columns (part_speaks_columns w.part);
   in_place = λ e. cc;
 }
 
 chosen_steps : (w : PairState) (v : Verdict) → PairFits w → (before : Option Verdict) → w.verdict ≡ before → (next : Option CState) → chosen_state w.protocol w.end v ≡ next → Steps w (chosen w v before next)
-chosen_steps w v fits (Some before) g next h = record { moves = inl refl; protocol = refl; enrolled = fits.enrolled; columns = fits.columns; in_place = λ e. cc }
-chosen_steps w v fits None g None h = record { moves = inl refl; protocol = refl; enrolled = fits.enrolled; columns = fits.columns; in_place = λ e. cc }
+chosen_steps w v fits (Some before) g next h = record { moves = inl refl; enrolled = fits.enrolled; columns = fits.columns; in_place = λ e. cc }
+chosen_steps w v fits None g None h = record { moves = inl refl; enrolled = fits.enrolled; columns = fits.columns; in_place = λ e. cc }
 chosen_steps w v fits None g (Some next) h = record {
   moves = inr (record {
     move = link.chooses v;
@@ -148,15 +144,14 @@ chosen_steps w v fits None g (Some next) h = record {
     moves = ap (λ verdict. link.chosen (state_of w) v verdict (chosen_state w.protocol w.end v)) g ∙ ap (λ o. link.chosen (state_of w) v None o) h;
     sent = unsent w;
   });
-  protocol = refl;
   enrolled = fits.enrolled;
   columns = fits.columns;
   in_place = λ e. cc;
 }
 
 completed_steps : (w : PairState) → PairFits w → (before : Option Verdict) → w.verdict ≡ before → (next : Option CState) → completed_state w.protocol w.end ≡ next → Steps w (completed w before next)
-completed_steps w fits (Some before) g next h = record { moves = inl refl; protocol = refl; enrolled = fits.enrolled; columns = fits.columns; in_place = λ e. cc }
-completed_steps w fits None g None h = record { moves = inl refl; protocol = refl; enrolled = fits.enrolled; columns = fits.columns; in_place = λ e. cc }
+completed_steps w fits (Some before) g next h = record { moves = inl refl; enrolled = fits.enrolled; columns = fits.columns; in_place = λ e. cc }
+completed_steps w fits None g None h = record { moves = inl refl; enrolled = fits.enrolled; columns = fits.columns; in_place = λ e. cc }
 completed_steps w fits None g (Some next) h = record {
   moves = inr (record {
     move = link.completes;
@@ -167,7 +162,6 @@ completed_steps w fits None g (Some next) h = record {
         ∙ ap (λ verdict. Some (link.with_end (state_of w) next verdict, None)) (sym g);
     sent = unsent w;
   });
-  protocol = refl;
   enrolled = fits.enrolled;
   columns = fits.columns;
   in_place = λ e. cc;
@@ -186,7 +180,6 @@ part_received_steps w n fits column sent (prow.Row next prompt) h = record {
     moves = ap (λ row. link.part_moved (state_of w) row) h;
     sent = unsent w;
   });
-  protocol = refl;
   enrolled = row_enrolled w.protocol w.part n next prompt fits.enrolled h;
   columns = fits.columns;
   in_place = λ e. cc;
@@ -207,7 +200,6 @@ end_received_steps w n fits column sent (crow.Row next prompt) h = record {
     moves = ap (λ row. link.end_moved (state_of w) w.verdict row) h;
     sent = unsent w;
   });
-  protocol = refl;
   enrolled = fits.enrolled;
   columns = fits.columns;
   in_place = λ e. cc;
@@ -267,10 +259,6 @@ step_fits w e next (Err fault) fits answers = subst PairFits (sym answers.1) fit
 pub step_moves : (w : PairState) (e : PairEvent) (next : PairState) (result : Result Line StepFault) → PairFits w → Answers w e next result → OnOk result (IsMove w next)
 step_moves w e next (Ok line) fits answers = (step_steps w e (next, line) fits answers.0).moves
 step_moves w e next (Err fault) fits answers = tt
-
-pub step_protocol : (w : PairState) (e : PairEvent) (next : PairState) (result : Result Line StepFault) → PairFits w → Answers w e next result → next.protocol ≡ w.protocol
-step_protocol w e next (Ok line) fits answers = (step_steps w e (next, line) fits answers.0).protocol
-step_protocol w e next (Err fault) fits answers = ap (λ (pair : PairState). pair.protocol) answers.1
 
 pub step_in_place : (w : PairState) (e : PairEvent) (next : PairState) (result : Result Line StepFault) → PairFits w → Answers w e next result → result ≢ Ok (line.Fault InvalidState)
 step_in_place w e next (Ok shown) fits answers h = (step_steps w e (next, shown) fits answers.0).in_place (ok_is h)

@@ -1,6 +1,5 @@
 //! A pair: a coordinator's end and its participant, with the bag of all messages between them.
 ghost use Rattle.std.specs.Prelude.{◌≡◌, ◌≢◌, ◌↔◌, IsTrue, IfOk, OnOk, OnErr, Ok, Err, Some, None};
-ghost use Rattle.ba_core.specs.declared.protocols.Protocol.{Protocol};
 
 use crate::events::{PairEvent, StepFault};
 use crate::lines::Line;
@@ -16,15 +15,13 @@ pub struct Pair {
 }
 
 impl Model for Pair {
-    ghost use Rattle.std.specs.Prelude.{◌≡◌};
-    ghost use Rattle.ba_core.specs.declared.protocols.Protocol.TheVariants.{Pc};
     ghost use Rattle.ba_world.specs.PairState.{PairState, PairFits};
 
     ghost Value = { PairState };
 
     ghost view = { λ p. p.sides };
 
-    ghost invariant = { λ p. (p.sides.protocol ≡ Pc) × PairFits p.sides };
+    ghost invariant = { λ p. PairFits p.sides };
 }
 
 impl Pair {
@@ -32,10 +29,8 @@ impl Pair {
     ghost use Rattle.ba_world.specs.PairPlay.{happens, speaks};
 
     /// A pair at its start: both sides are Active, and the bag is empty.
-    /// For now only ParticipantCompletion can be played.
     #[tactic(auto, using(crate::proofs::Safety::start_fits))]
     pub fn make(alloc: Global, protocol: Protocol) -> Result<Pair, Memory>
-        requires { protocol ≡ Protocol.Pc }
         ensures { IfOk result (λ pair. pair ≡ start protocol) }
     {
         let sides = Sides::make(alloc, protocol)?;

@@ -81,7 +81,6 @@ impl Sides {
     }
 
     fn act(&mut self, act: Act) -> Line
-        requires built { self.old.protocol ≡ Protocol.Pc }
         requires part { IsTrue (is_part_state self.old.protocol self.old.part) }
         ensures acted { (self.new, result) ≡ acted self.old (acted_state self.old.protocol self.old.part act) }
     {
@@ -110,7 +109,6 @@ impl Sides {
     }
 
     fn tick_end(&mut self) -> Result<Line, StepFault>
-        requires built { self.old.protocol ≡ Protocol.Pc }
         requires end { IsTrue (is_end_state self.old.protocol self.old.end) }
         ensures ticked { IfOk result (λ line. (self.new, line) ≡ end_ticked self.old (end_tick self.old.end)) }
         ensures err { OnErr result (result ≡ Err StepFault.Memory) }
@@ -124,7 +122,6 @@ impl Sides {
     }
 
     fn tick_part(&mut self) -> Result<Line, StepFault>
-        requires built { self.old.protocol ≡ Protocol.Pc }
         requires part { IsTrue (is_part_state self.old.protocol self.old.part) }
         ensures ticked { IfOk result (λ line. (self.new, line) ≡ part_ticked self.old (part_says self.old.part)) }
         ensures err { OnErr result (result ≡ Err StepFault.Memory) }
@@ -136,7 +133,6 @@ impl Sides {
     }
 
     fn choose(&mut self, v: Verdict) -> Line
-        requires built { self.old.protocol ≡ Protocol.Pc }
         requires end { IsTrue (is_end_state self.old.protocol self.old.end) }
         ensures chosen { (self.new, result) ≡ chosen self.old v self.old.verdict (chosen_state self.old.protocol self.old.end v) }
     {
@@ -154,7 +150,7 @@ impl Sides {
     }
 
     fn complete(&mut self) -> Line
-        requires built { self.old.protocol ≡ Protocol.Pc }
+        requires end { IsTrue (is_end_state self.old.protocol self.old.end) }
         ensures completed { (self.new, result) ≡ completed self.old self.old.verdict (completed_state self.old.protocol self.old.end) }
     {
         if self.verdict.is_some() {
@@ -171,7 +167,6 @@ impl Sides {
 
     // A notice arrives at the side that it is for.
     fn receive(&mut self, n: Notice) -> Line
-        requires built { self.old.protocol ≡ Protocol.Pc }
         requires end { IsTrue (is_end_state self.old.protocol self.old.end) }
         requires part { IsTrue (is_part_state self.old.protocol self.old.part) }
         requires enrolled { self.old.part ≢ PState.Registering }
@@ -198,7 +193,6 @@ impl Sides {
     }
 
     fn receive_at_end(&mut self, row: CRow) -> Line
-        requires built { self.old.protocol ≡ Protocol.Pc }
         ensures received { (self.new, result) ≡ end_received self.old row }
     {
         match row {
@@ -212,7 +206,6 @@ impl Sides {
 
     // An end that comes to Completed and has a verdict moves on by it at once.
     fn settle(&self, next: CState) -> CState
-        requires built { self.now.protocol ≡ Protocol.Pc }
         ensures settled { result ≡ settled self.now.protocol next self.now.verdict }
     {
         match (next, self.verdict) {
@@ -225,7 +218,6 @@ impl Sides {
 
     // The bag's message with this number arrives, if there is one.
     fn deliver(&mut self, number: u64) -> Option<Line>
-        requires built { self.old.protocol ≡ Protocol.Pc }
         requires fits { PairFits self.old }
         ensures some { IfSome result (λ line. delivered self.old (message_at self.old.bag number) ≡ Some (self.new, line)) }
         ensures none { IfNone result (message_at self.old.bag number ≡ None) }
@@ -238,7 +230,6 @@ impl Sides {
     /// Plays one event.
     #[tactic(auto, using(crate::proofs::OfProtocol::end_state, crate::proofs::OfProtocol::part_state))]
     pub fn happen(&mut self, e: PairEvent) -> Result<Line, StepFault>
-        requires built { self.old.protocol ≡ Protocol.Pc }
         requires fits { PairFits self.old }
         ensures step { IfOk result (λ line. happens self.old e ≡ Some (self.new, line)) }
         ensures none { (result ≡ Err StepFault.NoSuchMessage) ↔ (happens self.old e ≡ None) }

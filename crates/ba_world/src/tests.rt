@@ -52,6 +52,50 @@ fn closes_a_pair(rt: HostRuntime) -> Result<(), Fail> {
 }
 
 #[test]
+fn late_complete(rt: HostRuntime) -> Result<(), Fail> {
+    let mut pair = Pair::make(rt.alloc(), Protocol::Cc)?;
+    for (event, want) in [
+        (PairEvent::Complete, "C=Completing P=Active bag=0"),
+        (
+            PairEvent::Tick(Side::Coordinator),
+            "C=Completing P=Active bag=1",
+        ),
+        (
+            PairEvent::Choose(Verdict::Undo),
+            "C=Canceling-Completing P=Active bag=1",
+        ),
+        (
+            PairEvent::Tick(Side::Coordinator),
+            "C=Canceling-Completing P=Active bag=2",
+        ),
+        (
+            PairEvent::Deliver(2),
+            "C=Canceling-Completing P=Canceling bag=2",
+        ),
+        (
+            PairEvent::Act(Act::Canceled),
+            "C=Canceling-Completing P=Ended/Canceled bag=2",
+        ),
+        (
+            PairEvent::Deliver(1),
+            "C=Canceling-Completing P=Ended/Canceled bag=2",
+        ),
+        (
+            PairEvent::Tick(Side::Participant),
+            "C=Canceling-Completing P=Ended/Canceled bag=3",
+        ),
+        (
+            PairEvent::Deliver(3),
+            "C=Ended/Canceled P=Ended/Canceled bag=3",
+        ),
+    ] {
+        let line = pair.step(&event)?;
+        assert_eq!(rt; line.to_string(rt.alloc())?.as_str(), want, "at {event:?}");
+    }
+    Ok(())
+}
+
+#[test]
 fn shows_faults(rt: HostRuntime) -> Result<(), Fail> {
     let refused = Line::Refused(11, Some(Id::of(2, 7)));
     assert_eq!(rt; refused.to_string(rt.alloc())?.as_str(), "refused 11 2.7");

@@ -2,7 +2,7 @@
 ghost use Rattle.std.specs.Prelude.{◌≡◌, ◌≤◌, ◌++◌, [], IfOk, IfErr, IfSome, OnOk, OnErr};
 ghost use Rattle.std.specs.Io.KnownBytes.{IsAtEnd};
 ghost use Rattle.ba_ports.specs.Causes.{Rose};
-ghost use Rattle.ba.specs.ScriptText.{IsBuilt, IsScript, Explains, first_after, onto_events};
+ghost use Rattle.ba.specs.ScriptText.{IsScript, Explains, first_after, onto_events};
 ghost use Rattle.ba.specs.Taking.{TakesAtMost, most_taken, most_until};
 
 use super::lines::Lines;
@@ -18,7 +18,6 @@ use std::alloc::Global;
 /// too long. `Read` is answered where a read fails before.
 pub fn read_script<S: Source>(alloc: Global, source: &mut S) -> Result<Script, ScriptFault>
     ensures script { IfOk result (λ script. IfSome (S.left source.old) (λ text. IsScript text script)) }
-    ensures form { IfOk result IsBuilt }
     ensures end { OnOk result (IsAtEnd (S.left source.new)) }
     ensures fault { IfErr result (λ fault. IfSome (S.left source.old) (λ text. Explains text fault)) }
 

@@ -1,21 +1,18 @@
-use Rattle.std.proofs.Common.{◌∙◌}
-use Rattle.ba_world.proofs.Steps.{step_fits, step_in_place, step_moves, step_protocol}
+use Rattle.ba_world.proofs.Steps.{step_fits, step_in_place, step_moves}
 use Rattle.ba_world.proofs.pairs.Pair.step.Goals as goal
 
 pub invariant_of-self : goal.invariant_of-self
-invariant_of-self c = (
-  step_protocol c.self.inside.sides c.args.e.now c.happen.new.self c.happen.result c.self.invariant.1 (c.happen.ensures.step, c.happen.ensures.unchanged) ∙ c.self.invariant.0,
-  step_fits c.self.inside.sides c.args.e.now c.happen.new.self c.happen.result c.self.invariant.1 (c.happen.ensures.step, c.happen.ensures.unchanged),
-)
+invariant_of-self c =
+    step_fits c.self.inside.sides c.args.e.now c.happen.new.self c.happen.result c.self.invariant (c.happen.ensures.step, c.happen.ensures.unchanged)
 
 pub returns-clause-moves : goal.returns-clause-moves
 returns-clause-moves c =
-    rw (← c.self.view_is) (step_moves c.self.inside.sides c.args.e.now c.happen.new.self c.happen.result c.self.invariant.1 (c.happen.ensures.step, c.happen.ensures.unchanged))
+    rw (← c.self.view_is) (step_moves c.self.inside.sides c.args.e.now c.happen.new.self c.happen.result c.self.invariant (c.happen.ensures.step, c.happen.ensures.unchanged))
 
 pub returns-clause-fits : goal.returns-clause-fits
 returns-clause-fits c =
-    step_fits c.self.inside.sides c.args.e.now c.happen.new.self c.happen.result c.self.invariant.1 (c.happen.ensures.step, c.happen.ensures.unchanged)
+    step_fits c.self.inside.sides c.args.e.now c.happen.new.self c.happen.result c.self.invariant (c.happen.ensures.step, c.happen.ensures.unchanged)
 
 pub returns-clause-in_place : goal.returns-clause-in_place
 returns-clause-in_place c =
-    step_in_place c.self.inside.sides c.args.e.now c.happen.new.self c.happen.result c.self.invariant.1 (c.happen.ensures.step, c.happen.ensures.unchanged)
+    step_in_place c.self.inside.sides c.args.e.now c.happen.new.self c.happen.result c.self.invariant (c.happen.ensures.step, c.happen.ensures.unchanged)
