@@ -1,5 +1,5 @@
 -- The cases of a line that no script has.
-use Rattle.std.proofs.Common.{◌≡◌, ◌≢◌, ◌<◌, ◌^◌, ◌++◌, Bool, IsTrue, List, ℕ, codes}
+use Rattle.std.proofs.Common.{◌≡◌, ◌≢◌, ◌<◌, ◌^◌, ◌++◌, Option, None, List, ℕ, codes}
 use Rattle.std.specs.Fmt.{decimal}
 use Rattle.ba_core.specs.declared.notices.Act.{Act}
 use Rattle.ba_core.specs.declared.protocols.Protocol.{Protocol}
@@ -9,11 +9,11 @@ use Rattle.ba.specs.declared.script.Reading.TheVariants.{Nothing, Form, Event}
 use Rattle.ba.specs.ScriptText.{act_word, event_words, IsInRange, IsPlain, IsRemark, Says, IsBad}
 
 -- a line that is no remark, tells no event and chooses no form where it may is a bad one
-pub bad_line : (first : Bool) (line : List ℕ) → (IsRemark line → ⊥) → ((e : PairEvent) → line ≡ event_words e → IsInRange e → ⊥)
-    → ((p : Protocol) → IsTrue first → Says (Form p) line → ⊥) → IsBad first line
-bad_line first line no_remark no_event no_form Nothing l = no_remark l.says
-bad_line first line no_remark no_event no_form (Form p) l = no_form p l.stands l.says
-bad_line first line no_remark no_event no_form (Event e) l = no_event e l.says.0 l.says.1
+pub bad_line : (form : Option Protocol) (line : List ℕ) → (IsRemark line → ⊥) → ((e : PairEvent) → line ≡ event_words e → IsInRange e → ⊥)
+    → ((p : Protocol) → form ≡ None → Says (Form p) line → ⊥) → IsBad form line
+bad_line form line no_remark no_event no_form Nothing l = no_remark l.says
+bad_line form line no_remark no_event no_form (Form p) l = no_form p l.stands l.says
+bad_line form line no_remark no_event no_form (Event e) l = no_event e l.says.0 l.says.1
 
 -- a line tells no event where it tells no act, no message and none of the plain events
 pub no_event : (line : List ℕ) → ((a : Act) → line ≢ codes "act " ++ act_word a) → ((n : ℕ) → n < 2 ^ 64 → line ≢ codes "deliver " ++ decimal n)

@@ -1,26 +1,29 @@
 -- How far a script was read, by its lines.
-use Rattle.std.proofs.Common.{◌≡◌, ℕ, ◌+◌, ◌*◌, ◌<◌, ◌≤◌, Bool, true, false, nat_eq, if◌then◌else◌, List, [], ◌∷◌, ◌++◌, length, take, drop, refl, sym, ap, ◌∙◌, subst, inl, inr, append_assoc, append-nil, take-append-drop, take-add, drop-drop, take_all, arith, length-append, length-drop}
+use Rattle.std.proofs.Common.{◌≡◌, ℕ, ◌+◌, ◌*◌, ◌<◌, ◌≤◌, true, false, nat_eq, Option, None, unwrap_or, if◌then◌else◌, List, [], ◌∷◌, ◌++◌, length, take, drop, refl, sym, ap, ◌∙◌, subst, inl, inr, append_assoc, append-nil, take-append-drop, take-add, drop-drop, take_all, arith, length-append, length-drop}
+use Rattle.ba_core.specs.declared.protocols.Protocol.{Protocol}
+use Rattle.ba_core.specs.declared.protocols.Protocol.TheVariants.{Pc}
 use Rattle.ba_world.specs.PairPlay.{Numbered}
 use Rattle.ba.specs.declared.script.Reading.{Reading}
 use Rattle.ba.specs.declared.script.Reading.TheVariants.{Nothing, Form, Event}
 use Rattle.ba.specs.Lines.{onto_first, lines_of, bytes_of}
-use Rattle.ba.specs.ScriptText.{IsLine, IsBad, first_after, onto_events, Means, StopsAt, IsPairScript, IsBadScript, IsLongScript}
+use Rattle.ba.specs.ScriptText.{IsLine, IsBad, form_after, onto_events, Means, StopsAt, IsPairScript, IsBadScript, IsLongScript}
 use Rattle.ba.specs.AtHand.{LosesLine}
 
 -- so many lines of the text were read, with these events, and this rest of it comes yet
-pub record Progress (text : List ℕ) (first : Bool) (read : ℕ) (rest : List ℕ) (events : List Numbered) : Type 0 where
+pub record Progress (text : List ℕ) (form : Option Protocol) (read : ℕ) (rest : List ℕ) (events : List Numbered) : Type 0 where
   pub bytes : (front : List ℕ) × (text ≡ front ++ rest) × (length front ≤ bytes_of (take read (lines_of text)))
   pub short : bytes_of (take read (lines_of text)) ≤ 257 * read
   pub left : drop read (lines_of text) ≡ lines_of rest
-  pub so_far : (lines : List (List ℕ)) (later : List Numbered) → Means first (read + 1) lines later → Means true 1 (take read (lines_of text) ++ lines) (events ++ later)
-  pub none_bad : (lines : List (List ℕ)) (bad : ℕ) → StopsAt first (read + 1) lines bad → StopsAt true 1 (take read (lines_of text) ++ lines) bad
+  pub so_far : (lines : List (List ℕ)) (protocol : Protocol) (later : List Numbered) → Means form (read + 1) lines protocol later
+      → Means None 1 (take read (lines_of text) ++ lines) protocol (events ++ later)
+  pub none_bad : (lines : List (List ℕ)) (bad : ℕ) → StopsAt form (read + 1) lines bad → StopsAt None 1 (take read (lines_of text) ++ lines) bad
 
-pub begun : (text : List ℕ) → Progress text true 0 text []
+pub begun : (text : List ℕ) → Progress text None 0 text []
 begun text = record {
   bytes = ([], refl, omega arith);
   short = omega arith;
   left = refl;
-  so_far = λ lines later means. means;
+  so_far = λ lines protocol later means. means;
   none_bad = λ lines bad stops. stops;
 }
 
@@ -51,10 +54,10 @@ some_line (byte ∷ bytes) any =
       | false ↦ onto_some byte (lines_of bytes)
     ]
 
-module _ (text : List ℕ) (first : Bool) (read : ℕ) (rest : List ℕ) (events : List Numbered) (p : Progress text first read rest events) where
+module _ (text : List ℕ) (form : Option Protocol) (read : ℕ) (rest : List ℕ) (events : List Numbered) (p : Progress text form read rest events) where
   -- a line more
-  pub advance : (line later : List ℕ) (reading : Reading) → LosesLine rest line later → IsLine first reading line
-      → Progress text (first_after first reading) (read + 1) later (events ++ onto_events reading (read + 1) [])
+  pub advance : (line later : List ℕ) (reading : Reading) → LosesLine rest line later → IsLine form reading line
+      → Progress text (form_after form reading) (read + 1) later (events ++ onto_events reading (read + 1) [])
   advance line later reading loses is =
       let all = lines_of text in
       let next : drop read all ≡ line ∷ lines_of later = p.left ∙ loses.lines in
@@ -69,18 +72,22 @@ module _ (text : List ℕ) (first : Bool) (read : ℕ) (rest : List ℕ) (events
         );
         short = omega (arith, count, p.short, is.short);
         left = drop_next all read line (lines_of later) next;
-        so_far = λ lines others means.
-            let whole : Means true 1 (take read all ++ line ∷ lines) (events ++ onto_events reading (read + 1) others) =
-            p.so_far (line ∷ lines) (onto_events reading (read + 1) others) (reading, others, is, refl, means) in
+        so_far = λ lines protocol others means.
+            let whole : Means None 1 (take read all ++ line ∷ lines) protocol (events ++ onto_events reading (read + 1) others) =
+            p.so_far (line ∷ lines) protocol (onto_events reading (read + 1) others) (reading, others, is, refl, means) in
             let events_are : events ++ onto_events reading (read + 1) others ≡ (events ++ onto_events reading (read + 1) []) ++ others =
             ap (λ t. events ++ t) (sym (onto_none reading (read + 1) others)) ∙ sym (append_assoc events (onto_events reading (read + 1) []) others) in
-            subst (λ t. Means true 1 t ((events ++ onto_events reading (read + 1) []) ++ others)) (regroup lines)
-            (subst (Means true 1 (take read all ++ line ∷ lines)) events_are whole);
-        none_bad = λ lines bad stops. subst (λ t. StopsAt true 1 t bad) (regroup lines) (p.none_bad (line ∷ lines) bad (inr (reading, is, stops)));
+            subst (λ t. Means None 1 t protocol ((events ++ onto_events reading (read + 1) []) ++ others)) (regroup lines)
+            (subst (Means None 1 (take read all ++ line ∷ lines) protocol) events_are whole);
+        none_bad = λ lines bad stops. subst (λ t. StopsAt None 1 t bad) (regroup lines) (p.none_bad (line ∷ lines) bad (inr (reading, is, stops)));
       }
 
+  -- the lines so far mean the events so far
+  means_all : Means None 1 (take read (lines_of text) ++ []) (unwrap_or form Pc) events
+  means_all = subst (Means None 1 (take read (lines_of text) ++ []) (unwrap_or form Pc)) (append-nil events) (p.so_far [] (unwrap_or form Pc) [] (refl, refl))
+
   -- the end of the text
-  pub finished : rest ≡ [] → read ≤ 100000 → IsPairScript text events
+  pub finished : rest ≡ [] → read ≤ 100000 → IsPairScript text (unwrap_or form Pc) events
   finished none few =
       let all = lines_of text in
       let nothing : drop read all ≡ [] = p.left ∙ ap lines_of none in
@@ -88,17 +95,17 @@ module _ (text : List ℕ) (first : Bool) (read : ℕ) (rest : List ℕ) (events
       let lines_are : take read all ++ [] ≡ all = append-nil (take read all) ∙ take_all read all fits in
       record {
         few = omega arith;
-        means = subst (λ t. Means true 1 t events) lines_are (subst (Means true 1 (take read all ++ [])) (append-nil events) (p.so_far [] [] refl));
+        means = subst (λ t. Means None 1 t (unwrap_or form Pc) events) lines_are means_all;
       }
 
   -- a bad line
-  pub stopped : (line : List ℕ) (later : List (List ℕ)) → lines_of rest ≡ line ∷ later → IsBad first line → read < 100000 → IsBadScript text (read + 1)
+  pub stopped : (line : List ℕ) (later : List (List ℕ)) → lines_of rest ≡ line ∷ later → IsBad form line → read < 100000 → IsBadScript text (read + 1)
   stopped line later is bad early =
       let all = lines_of text in
       let lines_are : take read all ++ (line ∷ later) ≡ all = ap (λ t. take read all ++ t) (sym (p.left ∙ is)) ∙ take-append-drop read all in
       record {
         early = omega arith;
-        stops = subst (λ t. StopsAt true 1 t (read + 1)) lines_are (p.none_bad (line ∷ later) (read + 1) (inl (bad, refl)));
+        stops = subst (λ t. StopsAt None 1 t (read + 1)) lines_are (p.none_bad (line ∷ later) (read + 1) (inl (bad, refl)));
       }
 
   -- a line past the limit
@@ -109,8 +116,8 @@ module _ (text : List ℕ) (first : Bool) (read : ℕ) (rest : List ℕ) (events
       record {
         long = over;
         means = (
+          unwrap_or form Pc,
           events,
-          subst (λ n. Means true 1 (take n all) events) all_read
-              (subst (λ t. Means true 1 t events) (append-nil (take read all)) (subst (Means true 1 (take read all ++ [])) (append-nil events) (p.so_far [] [] refl))),
+          subst (λ n. Means None 1 (take n all) (unwrap_or form Pc) events) all_read (subst (λ t. Means None 1 t (unwrap_or form Pc) events) (append-nil (take read all)) means_all),
         );
       }

@@ -1,7 +1,6 @@
 -- What a replay promises, from what its script and its play were.
 use Rattle.std.proofs.Common.{◌≡◌, ℕ, List, [], append-nil, Option, Some, None, IfSome, refl, inl, inr, arith, Result, Ok, Err, OnOk, OnErr, sym, subst}
 use Rattle.std.specs.Io.KnownBytes.{Appends, Keeps}
-use Rattle.ba_core.specs.declared.protocols.Protocol.TheVariants.{Pc, Cc}
 use Rattle.ba_world.proofs.Safety.{plays_are_safe}
 use Rattle.ba.specs.declared.play.PlayFault.{PlayFault}
 use Rattle.ba.specs.declared.play.PlayFault.TheVariants as broke
@@ -28,22 +27,20 @@ pub whole_play : (left : Option (List ℕ)) (played : Script) (before now : Opti
     → IfSome left (λ text. IsScript text played) → (play_of played).stopped_at ≡ None → Appends before now (shown (play_of played).lines)
     → IfSome left (λ input. WritesPlay input before now)
 whole_play None played before now is whole written = tt
-whole_play (Some input) (Pair Pc events) before now is whole written =
-    record { events = events; script = is; whole = whole; written = written; safe = plays_are_safe Pc events }
-whole_play (Some input) (Pair Cc events) before now is whole written = absurd is
+whole_play (Some input) (Pair protocol events) before now is whole written =
+    record { protocol = protocol; events = events; script = is; whole = whole; written = written; safe = plays_are_safe protocol events }
 
 -- a play broke off
 pub broken_play : (left rest : Option (List ℕ)) (played : Script) (before now : Option (List ℕ)) (fault : PlayFault)
     → IfSome left (λ text. IsScript text played) → BreaksOff (play_of played) before now fault
     → IfSome left (λ input. Stops input rest before now (unplayed fault))
 broken_play None rest played before now fault is broken = tt
-broken_play (Some input) rest (Pair Cc events) before now fault is broken = absurd is
-broken_play (Some input) rest (Pair Pc events) before now (broke.NoSuchMessage number) is broken =
-    record { events = events; script = is; stopped = broken.0; written = broken.1; safe = plays_are_safe Pc events }
-broken_play (Some input) rest (Pair Pc events) before now broke.Write is broken =
-    record { events = events; script = is; written = broken; safe = plays_are_safe Pc events }
-broken_play (Some input) rest (Pair Pc events) before now broke.Memory is broken =
-    inl (record { events = events; script = is; written = broken; safe = plays_are_safe Pc events })
+broken_play (Some input) rest (Pair protocol events) before now (broke.NoSuchMessage number) is broken =
+    record { protocol = protocol; events = events; script = is; stopped = broken.0; written = broken.1; safe = plays_are_safe protocol events }
+broken_play (Some input) rest (Pair protocol events) before now broke.Write is broken =
+    record { protocol = protocol; events = events; script = is; written = broken; safe = plays_are_safe protocol events }
+broken_play (Some input) rest (Pair protocol events) before now broke.Memory is broken =
+    inl (record { protocol = protocol; events = events; script = is; written = broken; safe = plays_are_safe protocol events })
 
 -- a script wasn't read
 pub unread_script : (left rest w : Option (List ℕ)) (fault : ScriptFault)

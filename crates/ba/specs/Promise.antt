@@ -3,9 +3,9 @@ use Rattle.std.specs.Prelude.{◌≡◌, ℕ, ◌+◌, ◌-◌, ◌⊎◌, IsTru
 use Rattle.std.specs.Fmt.{decimal}
 use Rattle.std.specs.List.{list_any}
 use Rattle.std.specs.Io.KnownBytes.{Appends, Keeps}
-use Rattle.ba_core.specs.declared.protocols.Protocol.TheVariants.{Pc}
+use Rattle.ba_core.specs.declared.protocols.Protocol.{Protocol}
 use Rattle.ba_world.specs.PairState.{start}
-use Rattle.ba_world.specs.PairPlay.{Numbered, Outcome, Play, play, IsSafePlay}
+use Rattle.ba_world.specs.PairPlay.{Numbered, Effect, Play, play, IsSafePlay}
 use Rattle.ba.specs.declared.play.PlayFault.{PlayFault}
 use Rattle.ba.specs.declared.play.PlayFault.TheVariants as played
 use Rattle.ba.specs.declared.run.RunFault.{RunFault}
@@ -30,39 +30,42 @@ BreaksOff p before now (played.NoSuchMessage number) = (p.stopped_at ≡ Some nu
 BreaksOff p before now played.Write = WritesPart before now (shown p.lines)
 BreaksOff p before now played.Memory = WritesPart before now (shown p.lines)
 
--- what an event's outcome shows
-abbrev pub outcome_text : ℕ → Option Outcome → List ℕ
-outcome_text number None = []
-outcome_text number (Some outcome) = numbered number outcome.1
+-- what an event's effect shows
+abbrev pub effect_text : ℕ → Option Effect → List ℕ
+effect_text number None = []
+effect_text number (Some effect) = numbered number effect.1
 
 -- one event broke off a play: what was written since of the text before it and of its own line, and why
-abbrev pub BreaksOffAt : ℕ → Option Outcome → List ℕ → Option (List ℕ) → Option (List ℕ) → PlayFault → Type 0
-BreaksOffAt number outcome text before now (played.NoSuchMessage at) = (outcome ≡ None) × (at ≡ number) × Appends before now text
-BreaksOffAt number outcome text before now played.Write = WritesPart before now (text ++ outcome_text number outcome)
-BreaksOffAt number outcome text before now played.Memory = Keeps before now
+abbrev pub BreaksOffAt : ℕ → Option Effect → List ℕ → Option (List ℕ) → Option (List ℕ) → PlayFault → Type 0
+BreaksOffAt number effect text before now (played.NoSuchMessage at) = (effect ≡ None) × (at ≡ number) × Appends before now text
+BreaksOffAt number effect text before now played.Write = WritesPart before now (text ++ effect_text number effect)
+BreaksOffAt number effect text before now played.Memory = Keeps before now
 
--- The input is a script, and its whole play was written. Each pair of the play is safe.
+-- The input is a script, and its whole play, which is safe, was written.
 pub record WritesPlay (input : List ℕ) (before now : Option (List ℕ)) : Type 0 where
+  pub protocol : Protocol
   pub events : List Numbered
-  pub script : IsPairScript input events
-  pub whole : (play (start Pc) events).stopped_at ≡ None
-  pub written : Appends before now (shown (play (start Pc) events).lines)
-  pub safe : IsSafePlay (play (start Pc) events)
+  pub script : IsPairScript input protocol events
+  pub whole : (play (start protocol) events).stopped_at ≡ None
+  pub written : Appends before now (shown (play (start protocol) events).lines)
+  pub safe : IsSafePlay (play (start protocol) events)
 
 -- The input is a script, and its play was written up to the event of this line, which can't be played.
 pub record WritesUpTo (input : List ℕ) (number : ℕ) (before now : Option (List ℕ)) : Type 0 where
+  pub protocol : Protocol
   pub events : List Numbered
-  pub script : IsPairScript input events
-  pub stopped : (play (start Pc) events).stopped_at ≡ Some number
-  pub written : Appends before now (shown (play (start Pc) events).lines)
-  pub safe : IsSafePlay (play (start Pc) events)
+  pub script : IsPairScript input protocol events
+  pub stopped : (play (start protocol) events).stopped_at ≡ Some number
+  pub written : Appends before now (shown (play (start protocol) events).lines)
+  pub safe : IsSafePlay (play (start protocol) events)
 
 -- The input is a script, and a front of its play was written.
 pub record WritesFront (input : List ℕ) (before now : Option (List ℕ)) : Type 0 where
+  pub protocol : Protocol
   pub events : List Numbered
-  pub script : IsPairScript input events
-  pub written : WritesPart before now (shown (play (start Pc) events).lines)
-  pub safe : IsSafePlay (play (start Pc) events)
+  pub script : IsPairScript input protocol events
+  pub written : WritesPart before now (shown (play (start protocol) events).lines)
+  pub safe : IsSafePlay (play (start protocol) events)
 
 -- The input is refused at its first bad line, which has this number. Nothing was written, and little was read
 -- past the line.

@@ -49,7 +49,7 @@ pub fn run<S: Source, K: Sink, N: Sink>(
     // 2: the words are no command line.
     ensures usage { (result ≡ 2) ↔ ¬ IsReplay (map string_bytes words.now) }
     ensures untouched { result ≡ 2 → (source.new ≡ source.old) × (sink.new ≡ sink.old) }
-    // 0: the input is a script, read to its end, and its play is written; each pair of the play is safe.
+    // 0: the input is a script, read to its end, and its play, which is safe, is written.
     ensures done { result ≡ 0 → IfSome (S.left source.old) (λ input. WritesPlay input (K.written sink.old) (K.written sink.new)) }
     ensures end { result ≡ 0 → IsAtEnd (S.left source.new) }
     ensures silent { result ≡ 0 → notes.new ≡ notes.old }

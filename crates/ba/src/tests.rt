@@ -159,6 +159,53 @@ fn choices_refused(rt: HostRuntime) -> Result<(), Fail> {
     Ok(())
 }
 
+#[test]
+fn choices_refused_while_completing(rt: HostRuntime) -> Result<(), Fail> {
+    let script = b"pair cc\nchoose close\ncomplete\nchoose close\ncomplete\nchoose undo\ncomplete\n\
+        choose undo\n";
+    let output = b"2 refused 35\n\
+        3 C=Completing P=Active bag=0\n\
+        4 refused 35\n\
+        5 refused 43\n\
+        6 C=Canceling-Completing P=Active bag=0\n\
+        7 refused 34\n\
+        8 refused 34\n";
+    expect(&rt, rt.alloc(), &replay_of(script), 0, output, b"")?;
+    Ok(())
+}
+
+#[test]
+fn complete_then_completed(rt: HostRuntime) -> Result<(), Fail> {
+    let script = b"pair cc\nact completed\ncomplete\ntick c\ndeliver 1\nact completed\ntick p\n\
+        deliver 2\n";
+    let output = b"2 refused 43\n\
+        3 C=Completing P=Active bag=0\n\
+        4 C=Completing P=Active bag=1\n\
+        5 C=Completing P=Completing bag=1\n\
+        6 C=Completing P=Completed bag=1\n\
+        7 C=Completing P=Completed bag=2\n\
+        8 C=Completed P=Completed bag=2\n";
+    expect(&rt, rt.alloc(), &replay_of(script), 0, output, b"")?;
+    Ok(())
+}
+
+#[test]
+fn late_complete(rt: HostRuntime) -> Result<(), Fail> {
+    let script = b"pair cc\ncomplete\ntick c\nchoose undo\ntick c\ndeliver 2\nact canceled\n\
+        deliver 1\ntick p\ndeliver 3\n";
+    let output = b"2 C=Completing P=Active bag=0\n\
+        3 C=Completing P=Active bag=1\n\
+        4 C=Canceling-Completing P=Active bag=1\n\
+        5 C=Canceling-Completing P=Active bag=2\n\
+        6 C=Canceling-Completing P=Canceling bag=2\n\
+        7 C=Canceling-Completing P=Ended/Canceled bag=2\n\
+        8 C=Canceling-Completing P=Ended/Canceled bag=2\n\
+        9 C=Canceling-Completing P=Ended/Canceled bag=3\n\
+        10 C=Ended/Canceled P=Ended/Canceled bag=3\n";
+    expect(&rt, rt.alloc(), &replay_of(script), 0, output, b"")?;
+    Ok(())
+}
+
 // The first bad line is named, whatever was right before it, and nothing is written.
 #[test]
 fn bad_lines(rt: HostRuntime) -> Result<(), Fail> {
@@ -168,7 +215,7 @@ fn bad_lines(rt: HostRuntime) -> Result<(), Fail> {
         (b"tick c\r\n", b"line 1 column 0\n"),
         (b"#\n\ndeliver 01\n", b"line 3 column 0\n"),
         (b"deliver 18446744073709551616", b"line 1 column 0\n"),
-        (b"pair cc\n", b"line 1 column 0\n"),
+        (b"pair cc\npair pc\n", b"line 2 column 0\n"),
         (b"pair pc\npair pc\n", b"line 2 column 0\n"),
         (b"deliver 1\nact nothing\n", b"line 2 column 0\n"),
     ];

@@ -1,4 +1,4 @@
-//! This project's tables of CoordinatorCompletion, after WS-BusinessActivity 1.2, section 3.2.
+//! This project's tables of CoordinatorCompletion, after WS-BusinessActivity 1.2, section 3.
 //! No call takes memory.
 #![tactic(auto)]
 

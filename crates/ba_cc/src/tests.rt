@@ -1,5 +1,5 @@
-//! Some cells of the tables, written by hand: a table in `specs/` with a mistake would prove the same
-//! mistake here.
+//! Cells of the tables, written by hand, all that are empty among them: a table in `specs/` with a mistake
+//! would prove the same mistake here.
 
 use crate::{CRow, PRow, c_choose, c_complete, c_receive, c_tick, p_act, p_receive, p_says};
 use ba_core::{Act, CState, How, Notice, PState, Verdict};
@@ -91,4 +91,216 @@ fn acts_and_says(rt: HostRuntime) {
         Some(PState::Completed)
     );
     assert_eq!(rt; p_says(PState::FailingCompleting), Some(Notice::Fail));
+}
+
+// The pairs of a state and a notice that have no row, read off the printed tables by hand: for each state the
+// columns that are empty there.
+#[test]
+fn refuses_what_has_no_row_at_an_end(rt: HostRuntime) {
+    use Notice::{Canceled, CannotComplete, Closed, Compensated, Completed, Exit, Fail};
+    let columns = [
+        Completed,
+        Closed,
+        Canceled,
+        Compensated,
+        Fail,
+        Exit,
+        CannotComplete,
+    ];
+    let table: [(CState, &[Notice]); 19] = [
+        (CState::Active, &[Completed, Closed, Canceled, Compensated]),
+        (CState::Completing, &[Closed, Canceled, Compensated]),
+        (CState::CancelingActive, &[Completed, Closed, Compensated]),
+        (CState::CancelingCompleting, &[Closed, Compensated]),
+        (
+            CState::Completed,
+            &[Closed, Canceled, Compensated, Fail, Exit, CannotComplete],
+        ),
+        (
+            CState::Closing,
+            &[Canceled, Compensated, Fail, Exit, CannotComplete],
+        ),
+        (
+            CState::Compensating,
+            &[Closed, Canceled, Exit, CannotComplete],
+        ),
+        (
+            CState::FailingActive,
+            &[
+                Completed,
+                Closed,
+                Canceled,
+                Compensated,
+                Exit,
+                CannotComplete,
+            ],
+        ),
+        (
+            CState::FailingCanceling,
+            &[
+                Completed,
+                Closed,
+                Canceled,
+                Compensated,
+                Exit,
+                CannotComplete,
+            ],
+        ),
+        (
+            CState::FailingCompleting,
+            &[
+                Completed,
+                Closed,
+                Canceled,
+                Compensated,
+                Exit,
+                CannotComplete,
+            ],
+        ),
+        (
+            CState::FailingCompensating,
+            &[Closed, Canceled, Compensated, Exit, CannotComplete],
+        ),
+        (
+            CState::NotCompleting,
+            &[Completed, Closed, Canceled, Compensated, Fail, Exit],
+        ),
+        (
+            CState::Exiting,
+            &[
+                Completed,
+                Closed,
+                Canceled,
+                Compensated,
+                Fail,
+                CannotComplete,
+            ],
+        ),
+        (CState::Ended(How::Failed), &[]),
+        (CState::Ended(How::Exited), &[]),
+        (CState::Ended(How::NotCompleted), &[]),
+        (CState::Ended(How::Canceled), &[]),
+        (CState::Ended(How::Closed), &[]),
+        (CState::Ended(How::Compensated), &[]),
+    ];
+    for (state, empty) in table {
+        for notice in columns {
+            let refused = c_receive(state, notice) == CRow::Invalid;
+            assert_eq!(rt;
+                refused,
+                empty.contains(&notice),
+                "at {state} and {notice:?}"
+            );
+        }
+    }
+}
+
+#[test]
+fn refuses_what_has_no_row_at_a_participant(rt: HostRuntime) {
+    use Notice::{Cancel, Close, Compensate, Complete, Exited, Failed, NotCompleted};
+    let columns = [
+        Complete,
+        Close,
+        Cancel,
+        Compensate,
+        Failed,
+        Exited,
+        NotCompleted,
+    ];
+    let table: [(PState, &[Notice]); 19] = [
+        (
+            PState::Active,
+            &[Close, Compensate, Failed, Exited, NotCompleted],
+        ),
+        (
+            PState::Completing,
+            &[Close, Compensate, Failed, Exited, NotCompleted],
+        ),
+        (
+            PState::Canceling,
+            &[Close, Compensate, Failed, Exited, NotCompleted],
+        ),
+        (PState::Completed, &[Failed, Exited, NotCompleted]),
+        (PState::Closing, &[Compensate, Failed, Exited, NotCompleted]),
+        (PState::Compensating, &[Close, Failed, Exited, NotCompleted]),
+        (
+            PState::FailingActive,
+            &[Close, Compensate, Exited, NotCompleted],
+        ),
+        (
+            PState::FailingCanceling,
+            &[Close, Compensate, Exited, NotCompleted],
+        ),
+        (
+            PState::FailingCompleting,
+            &[Close, Compensate, Exited, NotCompleted],
+        ),
+        (PState::FailingCompensating, &[Close, Exited, NotCompleted]),
+        (PState::NotCompleting, &[Close, Compensate, Failed, Exited]),
+        (PState::Exiting, &[Close, Compensate, Failed, NotCompleted]),
+        (PState::Ended(How::Failed), &[]),
+        (PState::Ended(How::Exited), &[]),
+        (PState::Ended(How::NotCompleted), &[]),
+        (PState::Ended(How::Canceled), &[]),
+        (PState::Ended(How::Closed), &[]),
+        (PState::Ended(How::Compensated), &[]),
+        (PState::Ended(How::Refused), &[]),
+    ];
+    for (state, empty) in table {
+        for notice in columns {
+            let refused = p_receive(state, notice) == PRow::Invalid;
+            assert_eq!(rt;
+                refused,
+                empty.contains(&notice),
+                "at {state} and {notice:?}"
+            );
+        }
+    }
+}
+
+// A notice that is no column of the side has no row.
+#[test]
+fn refuses_what_comes_from_its_own_side(rt: HostRuntime) {
+    for state in [
+        CState::Active,
+        CState::Completed,
+        CState::Ended(How::Closed),
+    ] {
+        for notice in [
+            Notice::Complete,
+            Notice::Close,
+            Notice::Cancel,
+            Notice::Compensate,
+            Notice::Failed,
+            Notice::Exited,
+            Notice::NotCompleted,
+        ] {
+            assert_eq!(rt;
+                c_receive(state, notice),
+                CRow::Invalid,
+                "at {state} and {notice:?}"
+            );
+        }
+    }
+    for state in [
+        PState::Active,
+        PState::Completed,
+        PState::Ended(How::Closed),
+    ] {
+        for notice in [
+            Notice::Completed,
+            Notice::Closed,
+            Notice::Canceled,
+            Notice::Compensated,
+            Notice::Fail,
+            Notice::Exit,
+            Notice::CannotComplete,
+        ] {
+            assert_eq!(rt;
+                p_receive(state, notice),
+                PRow::Invalid,
+                "at {state} and {notice:?}"
+            );
+        }
+    }
 }

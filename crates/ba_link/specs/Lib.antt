@@ -1,4 +1,5 @@
 pub mod Fits
 pub mod Link
+pub mod Outcomes
 pub mod Pairs
 pub mod States

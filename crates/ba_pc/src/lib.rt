@@ -1,4 +1,4 @@
-//! This project's tables of ParticipantCompletion, after WS-BusinessActivity 1.2, section 3.1.
+//! This project's tables of ParticipantCompletion, after WS-BusinessActivity 1.2, section 3.
 //! No call takes memory.
 #![tactic(auto)]
 

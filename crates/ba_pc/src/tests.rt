@@ -1,5 +1,5 @@
-//! Some cells of the tables, written by hand: a table in `specs/` with a mistake would prove the same
-//! mistake here.
+//! Cells of the tables, written by hand, all that are empty among them: a table in `specs/` with a mistake
+//! would prove the same mistake here.
 
 use crate::{CRow, PRow, c_choose, c_receive, c_tick, p_act, p_receive, p_says};
 use ba_core::{Act, CState, How, Notice, PState, Verdict};
@@ -144,4 +144,210 @@ fn acts_and_says(rt: HostRuntime) {
         Some(Notice::Compensated)
     );
     assert_eq!(rt; p_says(PState::Closing), None);
+}
+
+// The pairs of a state and a notice that have no row, read off the printed tables by hand: for each state the
+// columns that are empty there.
+#[test]
+fn refuses_what_has_no_row_at_an_end(rt: HostRuntime) {
+    use Notice::{Canceled, CannotComplete, Closed, Compensated, Completed, Exit, Fail};
+    let columns = [
+        Completed,
+        Closed,
+        Canceled,
+        Compensated,
+        Fail,
+        Exit,
+        CannotComplete,
+    ];
+    let table: [(CState, &[Notice]); 16] = [
+        (CState::Active, &[Closed, Canceled, Compensated]),
+        (CState::Canceling, &[Closed, Compensated]),
+        (
+            CState::Completed,
+            &[Closed, Canceled, Compensated, Fail, Exit, CannotComplete],
+        ),
+        (
+            CState::Closing,
+            &[Canceled, Compensated, Fail, Exit, CannotComplete],
+        ),
+        (
+            CState::Compensating,
+            &[Closed, Canceled, Exit, CannotComplete],
+        ),
+        (
+            CState::FailingActive,
+            &[
+                Completed,
+                Closed,
+                Canceled,
+                Compensated,
+                Exit,
+                CannotComplete,
+            ],
+        ),
+        (
+            CState::FailingCanceling,
+            &[
+                Completed,
+                Closed,
+                Canceled,
+                Compensated,
+                Exit,
+                CannotComplete,
+            ],
+        ),
+        (
+            CState::FailingCompensating,
+            &[Closed, Canceled, Compensated, Exit, CannotComplete],
+        ),
+        (
+            CState::NotCompleting,
+            &[Completed, Closed, Canceled, Compensated, Fail, Exit],
+        ),
+        (
+            CState::Exiting,
+            &[
+                Completed,
+                Closed,
+                Canceled,
+                Compensated,
+                Fail,
+                CannotComplete,
+            ],
+        ),
+        (CState::Ended(How::Failed), &[]),
+        (CState::Ended(How::Exited), &[]),
+        (CState::Ended(How::NotCompleted), &[]),
+        (CState::Ended(How::Canceled), &[]),
+        (CState::Ended(How::Closed), &[]),
+        (CState::Ended(How::Compensated), &[]),
+    ];
+    for (state, empty) in table {
+        for notice in columns {
+            let refused = c_receive(state, notice) == CRow::Invalid;
+            assert_eq!(rt;
+                refused,
+                empty.contains(&notice),
+                "at {state} and {notice:?}"
+            );
+        }
+    }
+}
+
+#[test]
+fn refuses_what_has_no_row_at_a_participant(rt: HostRuntime) {
+    use Notice::{Cancel, Close, Compensate, Complete, Exited, Failed, NotCompleted};
+    let columns = [
+        Complete,
+        Close,
+        Cancel,
+        Compensate,
+        Failed,
+        Exited,
+        NotCompleted,
+    ];
+    let table: [(PState, &[Notice]); 17] = [
+        (
+            PState::Active,
+            &[Complete, Close, Compensate, Failed, Exited, NotCompleted],
+        ),
+        (
+            PState::Canceling,
+            &[Complete, Close, Compensate, Failed, Exited, NotCompleted],
+        ),
+        (PState::Completed, &[Complete, Failed, Exited, NotCompleted]),
+        (
+            PState::Closing,
+            &[Complete, Compensate, Failed, Exited, NotCompleted],
+        ),
+        (
+            PState::Compensating,
+            &[Complete, Close, Failed, Exited, NotCompleted],
+        ),
+        (
+            PState::FailingActive,
+            &[Complete, Close, Compensate, Exited, NotCompleted],
+        ),
+        (
+            PState::FailingCanceling,
+            &[Complete, Close, Compensate, Exited, NotCompleted],
+        ),
+        (
+            PState::FailingCompensating,
+            &[Complete, Close, Exited, NotCompleted],
+        ),
+        (
+            PState::NotCompleting,
+            &[Complete, Close, Compensate, Failed, Exited],
+        ),
+        (
+            PState::Exiting,
+            &[Complete, Close, Compensate, Failed, NotCompleted],
+        ),
+        (PState::Ended(How::Failed), &[Complete]),
+        (PState::Ended(How::Exited), &[Complete]),
+        (PState::Ended(How::NotCompleted), &[Complete]),
+        (PState::Ended(How::Canceled), &[Complete]),
+        (PState::Ended(How::Closed), &[Complete]),
+        (PState::Ended(How::Compensated), &[Complete]),
+        (PState::Ended(How::Refused), &[Complete]),
+    ];
+    for (state, empty) in table {
+        for notice in columns {
+            let refused = p_receive(state, notice) == PRow::Invalid;
+            assert_eq!(rt;
+                refused,
+                empty.contains(&notice),
+                "at {state} and {notice:?}"
+            );
+        }
+    }
+}
+
+// A notice that is no column of the side has no row.
+#[test]
+fn refuses_what_comes_from_its_own_side(rt: HostRuntime) {
+    for state in [
+        CState::Active,
+        CState::Completed,
+        CState::Ended(How::Closed),
+    ] {
+        for notice in [
+            Notice::Complete,
+            Notice::Close,
+            Notice::Cancel,
+            Notice::Compensate,
+            Notice::Failed,
+            Notice::Exited,
+            Notice::NotCompleted,
+        ] {
+            assert_eq!(rt;
+                c_receive(state, notice),
+                CRow::Invalid,
+                "at {state} and {notice:?}"
+            );
+        }
+    }
+    for state in [
+        PState::Active,
+        PState::Completed,
+        PState::Ended(How::Closed),
+    ] {
+        for notice in [
+            Notice::Completed,
+            Notice::Closed,
+            Notice::Canceled,
+            Notice::Compensated,
+            Notice::Fail,
+            Notice::Exit,
+            Notice::CannotComplete,
+        ] {
+            assert_eq!(rt;
+                p_receive(state, notice),
+                PRow::Invalid,
+                "at {state} and {notice:?}"
+            );
+        }
+    }
 }

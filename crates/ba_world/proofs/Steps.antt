@@ -28,14 +28,14 @@ use Rattle.ba_world.specs.declared.events.PairEvent.TheVariants as event
 use Rattle.ba_world.specs.declared.events.StepFault.{StepFault}
 use Rattle.ba_world.specs.declared.lines.Line.{Line}
 use Rattle.ba_world.specs.declared.lines.Line.TheVariants as line
-use Rattle.ba_world.specs.PairState.{PairState, PairFits, IsMove, link_of, state_of, message_of, is_for_part}
-use Rattle.ba_world.specs.PairPlay.{Outcome, happens, acted, end_ticked, part_ticked, chosen, completed, end_received, part_received, delivered, message_at}
+use Rattle.ba_world.specs.PairState.{PairState, PairFits, IsMove, link_of, state_of, message_of, is_for_part, message_at}
+use Rattle.ba_world.specs.PairPlay.{Effect, happens, acted, end_ticked, part_ticked, chosen, completed, end_received, part_received, delivered}
 use Rattle.ba_world.proofs.Enrolled.{acted_enrolled, row_enrolled}
 use Rattle.ba_link.proofs.Kept.{links_stay_possible, part_in_place, end_in_place}
 use Rattle.ba_world.proofs.Bags.{map-joined, all_joined, all_at, sent_at}
 
--- an outcome of an event at a pair
-pub record Steps (w : PairState) (o : Outcome) : Type 0 where
+-- an effect of an event at a pair
+pub record Steps (w : PairState) (o : Effect) : Type 0 where
   pub moves : IsMove w o.0
   pub enrolled : o.0.part ≢ part.Registering
   pub columns : AllByRecursion (λ n. IsTrue (is_column n)) o.0.bag
@@ -220,7 +220,7 @@ found_at : (bag : List Notice) (k : ℕ) (n : Notice) (none : Bool) → (if none
 found_at bag k n true h = absurd cc
 found_at bag k n false h = h
 
-delivered_steps : (w : PairState) (number : ℕ) → PairFits w → (found : Option Notice) → message_at w.bag number ≡ found → (o : Outcome) → delivered w found ≡ Some o → Steps w o
+delivered_steps : (w : PairState) (number : ℕ) → PairFits w → (found : Option Notice) → message_at w.bag number ≡ found → (o : Effect) → delivered w found ≡ Some o → Steps w o
 delivered_steps w number fits None g o h = absurd cc
 delivered_steps w number fits (Some n) g o h =
     let there = found_at w.bag (number - 1) n (nat_eq number 0) g in
@@ -229,7 +229,7 @@ delivered_steps w number fits (Some n) g o h =
     (sent_at message_of w.bag (number - 1) n there) (is_for_part n) refl)
 
 -- what an event leads to, if it leads to something
-pub step_steps : (w : PairState) (e : PairEvent) (o : Outcome) → PairFits w → happens w e ≡ Some o → Steps w o
+pub step_steps : (w : PairState) (e : PairEvent) (o : Effect) → PairFits w → happens w e ≡ Some o → Steps w o
 step_steps w (event.Act a) o fits h = subst (Steps w) (some_is h) (acted_steps w a fits (acted_state w.protocol w.part a) refl)
 step_steps w (event.Tick Coordinator) o fits h = subst (Steps w) (some_is h) (end_ticked_steps w fits)
 step_steps w (event.Tick Participant) o fits h = subst (Steps w) (some_is h) (part_ticked_steps w fits)
@@ -241,7 +241,7 @@ ok_is : {x y : Line} → let r : Result Line StepFault = Ok x in r ≡ Ok y → 
 ok_is h = cc
 
 -- what fits a pair fits it after a step
-pub steps_fit : (w : PairState) (o : Outcome) → PairFits w → Steps w o → PairFits o.0
+pub steps_fit : (w : PairState) (o : Effect) → PairFits w → Steps w o → PairFits o.0
 steps_fit w o fits steps = record {
   link = elim steps.moves [ inl same ↦ subst LinkFits (sym same) fits.link | inr step ↦ links_stay_possible (link_of w) (link_of o.0) step fits.link ];
   enrolled = steps.enrolled;

@@ -1,3 +1,4 @@
 pub mod LineText
 pub mod PairPlay
 pub mod PairState
+pub mod Recorded

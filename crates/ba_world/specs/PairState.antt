@@ -1,5 +1,5 @@
 -- A pair: one link whose participant is enrolled, and the bag of all that was sent on it.
-use Rattle.std.specs.Prelude.{◌≡◌, ◌≢◌, ◌⊎◌, Bool, true, false, List, [], map, Option, None, Some, IsTrue, if◌then◌else◌}
+use Rattle.std.specs.Prelude.{◌≡◌, ◌≢◌, ℕ, ◌-◌, ◌⊎◌, Bool, true, false, List, [], map, slice_get, nat_eq, Option, None, Some, IsTrue, if◌then◌else◌}
 use Rattle.std.specs.List.{AllByRecursion}
 use Rattle.ba_core.specs.Messages.{is_column}
 use Rattle.ba_core.specs.declared.protocols.Protocol.{Protocol}
@@ -23,6 +23,10 @@ pub record PairState : Type 0 where
 -- a pair at its start: both sides are Active, and nothing was said
 abbrev pub start : Protocol → PairState
 start p = record { protocol = p; end = end.Active; verdict = None; part = part.Active; bag = [] }
+
+-- the bag's message with this number, from 1
+abbrev pub message_at : List Notice → ℕ → Option Notice
+message_at bag number = if nat_eq number 0 then None else slice_get bag (number - 1)
 
 -- the notice comes from a coordinator, and so goes to a participant
 abbrev pub is_for_part : Notice → Bool

@@ -1,5 +1,5 @@
 //! A pair: a coordinator's end and its participant, with the bag of all messages between them.
-ghost use Rattle.std.specs.Prelude.{◌≡◌, ◌≢◌, ◌↔◌, IsTrue, IfOk, OnOk, OnErr, Ok, Err, Some, None};
+ghost use Rattle.std.specs.Prelude.{◌≡◌, ◌≢◌, ◌↔◌, ◌++◌, List, [], ◌∷◌, IsTrue, IfOk, OnOk, OnErr, Ok, Err, Some, None};
 
 use crate::events::{PairEvent, StepFault};
 use crate::lines::Line;
@@ -27,6 +27,7 @@ impl Model for Pair {
 impl Pair {
     ghost use Rattle.ba_world.specs.PairState.{start, PairFits, IsMove};
     ghost use Rattle.ba_world.specs.PairPlay.{happens, speaks};
+    ghost use Rattle.ba_world.specs.Recorded.{Played, OutcomesRecorded};
 
     /// A pair at its start: both sides are Active, and the bag is empty.
     #[tactic(auto, using(crate::proofs::Safety::start_fits))]
@@ -51,6 +52,8 @@ impl Pair {
         ensures fits { PairFits self.new }
         // Nothing arrives out of place.
         ensures in_place { result ≢ Ok (Line.Fault Code.InvalidState) }
+        // Whatever was played before, an event more keeps that outcomes are recorded once.
+        ensures recorded { (past : List Played) → OutcomesRecorded past self.old → OnOk result (OutcomesRecorded (past ++ (self.old, e.now) ∷ []) self.new) }
     {
         self.sides.happen(*e)
     }

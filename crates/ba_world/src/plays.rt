@@ -5,7 +5,7 @@ ghost use Rattle.ba_world.specs.PairState.{start};
 ghost use Rattle.ba_world.specs.PairPlay.{Numbered, play, IsSafePlay};
 
 /// In every play, whatever its events, the two sides stay among the possible pairs, each message in the bag
-/// says what holds, and nothing arrives out of place.
+/// says what holds, nothing arrives out of place, and outcomes are recorded once.
 pub fn plays_stay_safe()
     ensures { (protocol : Protocol) (events : List Numbered) → IsSafePlay (play (start protocol) events) }
 {}

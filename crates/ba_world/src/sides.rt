@@ -4,8 +4,7 @@ ghost use Rattle.ba_core.specs.EndRows.{end_row, end_tick, chosen_state, complet
 ghost use Rattle.ba_core.specs.PartRows.{part_row, part_says, acted_state, is_part_state};
 ghost use Rattle.ba_core.specs.Messages.{is_column};
 ghost use Rattle.std.specs.Option.{option_to_list};
-ghost use Rattle.ba_world.specs.PairState.{is_for_part};
-ghost use Rattle.ba_world.specs.PairPlay.{message_at};
+ghost use Rattle.ba_world.specs.PairState.{is_for_part, message_at};
 
 use crate::events::{PairEvent, StepFault};
 use crate::lines::Line;
@@ -52,7 +51,7 @@ fn refused(why: u8) -> Line
 impl Sides {
     ghost use Rattle.ba_link.specs.Link.{settled};
     ghost use Rattle.ba_world.specs.PairState.{PairFits, start};
-    ghost use Rattle.ba_world.specs.PairPlay.{seen, acted, end_ticked, part_ticked, chosen, completed, end_received, part_received, received, delivered, message_at, happens, speaks};
+    ghost use Rattle.ba_world.specs.PairPlay.{seen, acted, end_ticked, part_ticked, chosen, completed, end_received, part_received, received, delivered, happens, speaks};
 
     /// The sides at their start: both are Active, and the bag is empty.
     pub fn make(alloc: Global, protocol: Protocol) -> Result<Sides, Memory>

@@ -1,14 +1,15 @@
 //! The law of all scripts.
 ghost use Rattle.std.specs.Prelude.{◌≡◌, ℕ, List};
+ghost use Rattle.ba_core.specs.declared.protocols.Protocol.{Protocol};
 ghost use Rattle.ba_world.specs.PairPlay.{Numbered};
 ghost use Rattle.ba.specs.ScriptText.{IsPairScript, IsBadScript, IsLongScript};
 
-/// A text is at most one of these: a script, of one list of events; a text with a first bad line, which is
-/// one; a text with too many lines.
+/// A text is at most one of these: a script, of one protocol and one list of events; a text with a first bad
+/// line, which is one; a text with too many lines.
 pub fn scripts_mean_one_thing()
-    ensures one { (text : List ℕ) (a b : List Numbered) → IsPairScript text a → IsPairScript text b → a ≡ b }
-    ensures bad { (text : List ℕ) (a : List Numbered) (n : ℕ) → IsPairScript text a → IsBadScript text n → ⊥ }
+    ensures one { (text : List ℕ) (p q : Protocol) (a b : List Numbered) → IsPairScript text p a → IsPairScript text q b → (p ≡ q) × (a ≡ b) }
+    ensures bad { (text : List ℕ) (p : Protocol) (a : List Numbered) (n : ℕ) → IsPairScript text p a → IsBadScript text n → ⊥ }
     ensures one_bad { (text : List ℕ) (m n : ℕ) → IsBadScript text m → IsBadScript text n → m ≡ n }
-    ensures long { (text : List ℕ) (a : List Numbered) → IsPairScript text a → IsLongScript text → ⊥ }
+    ensures long { (text : List ℕ) (p : Protocol) (a : List Numbered) → IsPairScript text p a → IsLongScript text → ⊥ }
     ensures long_bad { (text : List ℕ) (n : ℕ) → IsLongScript text → IsBadScript text n → ⊥ }
 {}

@@ -1,8 +1,8 @@
 //! Reads a script, line by line as it comes.
-ghost use Rattle.std.specs.Prelude.{◌≡◌, ◌≤◌, ◌++◌, [], IfOk, IfErr, IfSome, OnOk, OnErr};
+ghost use Rattle.std.specs.Prelude.{◌≡◌, ◌≤◌, ◌++◌, [], None, IfOk, IfErr, IfSome, OnOk, OnErr};
 ghost use Rattle.std.specs.Io.KnownBytes.{IsAtEnd};
 ghost use Rattle.ba_ports.specs.Causes.{Rose};
-ghost use Rattle.ba.specs.ScriptText.{IsScript, Explains, first_after, onto_events};
+ghost use Rattle.ba.specs.ScriptText.{IsScript, Explains, form_after, onto_events};
 ghost use Rattle.ba.specs.Taking.{TakesAtMost, most_taken, most_until};
 
 use super::lines::Lines;
@@ -32,20 +32,20 @@ pub fn read_script<S: Source>(alloc: Global, source: &mut S) -> Result<Script, S
 {
     let mut lines = Lines::new(alloc)?;
     let mut events = List::new(alloc);
-    let mut first = true;
+    let mut form = None;
     'lines: for read in 0..MOST_LINES {
         let Some(count) = lines.find(source)? else {
-            return Ok(Script::Pair(Protocol::Pc, events));
+            return Ok(Script::Pair(form.unwrap_or(Protocol::Pc), events));
         };
-        let Some(reading) = reading_of(lines.front(count), first) else {
+        let Some(reading) = reading_of(lines.front(count), form) else {
             return Err(ScriptFault::BadLine(read + 1, 0));
         };
         add(&mut events, reading, read + 1)?;
-        first = still_first(first, reading);
+        form = form_after(form, reading);
         lines.pass(count);
     }
     if lines.is_at_end(source)? {
-        return Ok(Script::Pair(Protocol::Pc, events));
+        return Ok(Script::Pair(form.unwrap_or(Protocol::Pc), events));
     }
     Err(ScriptFault::TooManyLines)
 }
@@ -64,12 +64,24 @@ fn add(events: &mut List<(u32, PairEvent)>, reading: Reading, number: u32) -> Re
     }
 }
 
-// Whether no line says anything yet, after a line that says this.
-fn still_first(first: bool, reading: Reading) -> bool
-    ensures { result ≡ first_after first reading }
+// The form that stands after a line that says this.
+fn form_after(form: Option<Protocol>, reading: Reading) -> Option<Protocol>
+    ensures { result ≡ form_after form reading }
+{
+    match form {
+        Some(chosen) => Some(chosen),
+        None => form_begun(reading),
+    }
+}
+
+// The form of a script whose first line that says something says this. One that begins with an event is of
+// a ParticipantCompletion pair.
+fn form_begun(reading: Reading) -> Option<Protocol>
+    ensures { result ≡ form_after None reading }
 {
     match reading {
-        Reading::Nothing => first,
-        Reading::Form(_) | Reading::Event(_) => false,
+        Reading::Nothing => None,
+        Reading::Form(protocol) => Some(protocol),
+        Reading::Event(_) => Some(Protocol::Pc),
     }
 }

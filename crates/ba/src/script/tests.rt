@@ -1,7 +1,7 @@
 //! Scripts that are read from a source in memory, which gives them in pieces.
 
 use super::{Script, ScriptFault, read_script};
-use ba_core::{Act, Side, Verdict};
+use ba_core::{Act, Protocol, Side, Verdict};
 use ba_ports::{Failed, Source};
 use ba_world::PairEvent;
 use std::alloc::{AllocError, Global};
@@ -104,6 +104,30 @@ fn reads_each_event(rt: HostRuntime) -> Result<(), Fail> {
     Ok(())
 }
 
+// The first line that says something chooses the protocol.
+#[test]
+fn chooses_the_form(rt: HostRuntime) -> Result<(), Fail> {
+    let table = [
+        (b"".as_slice(), Protocol::Pc),
+        (b"# pair cc\n".as_slice(), Protocol::Pc),
+        (b"tick c\n".as_slice(), Protocol::Pc),
+        (b"pair pc\ncomplete\n".as_slice(), Protocol::Pc),
+        (b"pair cc".as_slice(), Protocol::Cc),
+        (b"\n# both\npair cc\n\ncomplete\n".as_slice(), Protocol::Cc),
+    ];
+    for (text, want) in table {
+        let mut source = Pieces {
+            bytes: text,
+            most: 3,
+            fails: false,
+            faults: 0,
+        };
+        let Script::Pair(protocol, _) = read_script(rt.alloc(), &mut source)?;
+        assert_eq!(rt; protocol, want);
+    }
+    Ok(())
+}
+
 #[test]
 fn finds_the_first_bad_line(rt: HostRuntime) -> Result<(), Fail> {
     let alloc = rt.alloc();
@@ -131,7 +155,9 @@ fn finds_the_first_bad_line(rt: HostRuntime) -> Result<(), Fail> {
         (b"deliver 99999999999999999999999".as_slice(), 1),
         (b"pair pc\n# remark\npair pc\n".as_slice(), 3),
         (b"\ntick c\npair pc\n".as_slice(), 3),
-        (b"pair cc\n".as_slice(), 1),
+        (b"pair cc\npair cc\n".as_slice(), 2),
+        (b"tick p\npair cc\n".as_slice(), 2),
+        (b"pair pc\ntick c\npair cc\n".as_slice(), 3),
         (b"pair\n".as_slice(), 1),
         (b"nodes 2\n".as_slice(), 1),
     ];

@@ -11,12 +11,12 @@ use super::{MOST_BYTES, Reading};
 use ba_core::{Act, Protocol, Side, Verdict};
 use ba_world::PairEvent;
 
-/// What the line says, where `first` means that no line before says anything. None where no line of a
-/// script is such.
+/// What the line says, where the lines before chose this form; None where they say nothing. None is
+/// answered where no line of a script is such.
 #[tactic(auto, using(crate::proofs::LineCases::bad_line))]
-pub fn reading_of(line: &[u8], first: bool) -> Option<Reading>
-    ensures some { IfSome result (λ reading. IsLine first reading line.now) }
-    ensures none { IfNone result (IsBad first line.now) }
+pub fn reading_of(line: &[u8], form: Option<Protocol>) -> Option<Reading>
+    ensures some { IfSome result (λ reading. IsLine form reading line.now) }
+    ensures none { IfNone result (IsBad form line.now) }
 {
     if line.len() > MOST_BYTES {
         return None;
@@ -27,7 +27,7 @@ pub fn reading_of(line: &[u8], first: bool) -> Option<Reading>
     if let Some(event) = event_of(line) {
         return Some(Reading::Event(event));
     }
-    if !first {
+    if form.is_some() {
         return None;
     }
     match form_of(line) {
@@ -53,6 +53,9 @@ fn form_of(line: &[u8]) -> Option<Protocol>
 {
     if line == b"pair pc".as_slice() {
         return Some(Protocol::Pc);
+    }
+    if line == b"pair cc".as_slice() {
+        return Some(Protocol::Cc);
     }
     None
 }

@@ -15,7 +15,7 @@ pub returns-in-Err-clause-broken : goal.returns-in-Err-clause-broken
 returns-in-Err-clause-broken g c =
     let none : Numbered = (0, event.Act act.Completed) in
     let e = get_or c.args.events.now c.events.number-index none in
-    breaks_off (play (start c.args.protocol) c.args.events.now) c.events.pair e.0 (λ next. play next (drop (c.events.number-index + 1) c.args.events.now)) (happens c.events.pair e.1)
+    breaks_off (play (start c.args.protocol) c.args.events.now) c.events.pair e (λ next. play next (drop (c.events.number-index + 1) c.args.events.now)) (happens c.events.pair e.1)
     c.events.text (g.K.Sink.written c.args.sink.now) (g.K.Sink.written c.events.sink) (g.K.Sink.written c.play_event.new.sink) c.in-Err.fault
     (subst (SoFar (play (start c.args.protocol) c.args.events.now) (g.K.Sink.written c.args.sink.now) (g.K.Sink.written c.events.sink) c.events.text)
     (play_at c.events.pair c.args.events.now c.events.number-index none c.events-test.true) c.events.invariant.so_far)
@@ -27,7 +27,7 @@ events-preserved g c =
     let e = get_or c.args.events.now c.events.number-index none in
     let played = c.in_default-play_event.ensures.played in
     record {
-      so_far = plays_on (play (start c.args.protocol) c.args.events.now) c.events.pair c.play_event.new.pair e.0 (λ next. play next (drop (c.events.number-index + 1) c.args.events.now))
+      so_far = plays_on (play (start c.args.protocol) c.args.events.now) c.events.pair c.play_event.new.pair e (λ next. play next (drop (c.events.number-index + 1) c.args.events.now))
           (happens c.events.pair e.1) played.0 c.events.text c.play_event.new.text (g.K.Sink.written c.args.sink.now) (g.K.Sink.written c.events.sink) (g.K.Sink.written c.play_event.new.sink)
           (subst (SoFar (play (start c.args.protocol) c.args.events.now) (g.K.Sink.written c.args.sink.now) (g.K.Sink.written c.events.sink) c.events.text)
           (play_at c.events.pair c.args.events.now c.events.number-index none c.events-test.true) c.events.invariant.so_far)

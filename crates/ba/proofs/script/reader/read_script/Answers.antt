@@ -7,12 +7,12 @@ use Rattle.ba.proofs.script.reader.read_script.Given.{Over}
 
 -- where the reading stands once a line was looked for
 found_at : (g : Over) (c : After-find g)
-    → StandsAt (g.S.Source.left c.args.source.now) (g.S.Source.left c.find.new.source) c.find.new.self c.lines.first c.lines.read c.lines.events
+    → StandsAt (g.S.Source.left c.args.source.now) (g.S.Source.left c.find.new.source) c.find.new.self c.lines.form c.lines.read c.lines.events
 found_at g c = stands_on _ _ _ _ _ _ _ _ c.lines.invariant.stands c.find.ensures.kept c.find.ensures.few
 
 -- and once the end was looked for
 ended_at : (g : Over) (c : After-is_at_end g)
-    → StandsAt (g.S.Source.left c.args.source.now) (g.S.Source.left c.is_at_end.new.source) c.is_at_end.new.self c.lines.first c.lines.read c.lines.events
+    → StandsAt (g.S.Source.left c.args.source.now) (g.S.Source.left c.is_at_end.new.source) c.is_at_end.new.self c.lines.form c.lines.read c.lines.events
 ended_at g c = stands_on _ _ _ _ _ _ _ _ c.lines.invariant.stands c.is_at_end.ensures.kept c.is_at_end.ensures.few
 
 pub returns-in_err-count-clause-reads : goal.returns-in_err-count-clause-reads
@@ -30,7 +30,7 @@ pub returns-in_default-clause-script : goal.returns-in_default-clause-script
 returns-in_default-clause-script g c =
     let at = found_at g (goal.at.returns-in_default-clause-script g c).After-find in
     let end = rw c.in_default.is at c.in_ok-count.ensures.end in
-    finished_of _ _ _ _ _ _ at end.0 end.1 (omega arith)
+    rw c.unwrap_or.ensures (finished_of _ _ _ _ _ _ at end.0 end.1 (omega arith))
 
 pub returns-in_default-reading_of-clause-fault : goal.returns-in_default-reading_of-clause-fault
 returns-in_default-reading_of-clause-fault g c =
@@ -68,7 +68,7 @@ lines-preserved g c =
     let says = rw c.front.ensures at c.in-Some-reading_of.ensures.some in
     record {
       later = search rules;
-      stands = rw (c.pass.ensures, c.still_first-first.ensures, c.in_ok-add.ensures.ok)
+      stands = rw (c.pass.ensures, c.form_after-form.ensures, c.in_ok-add.ensures.ok)
           (advance_of _ _ _ _ _ _ c.in-Some.count c.in-Some-reading_of.reading at front says);
     }
 
@@ -87,7 +87,7 @@ pub returns-then-branch-clause-script : goal.returns-then-branch-clause-script
 returns-then-branch-clause-script g c =
     let at = ended_at g (goal.at.returns-then-branch-clause-script g c).After-is_at_end in
     let end = c.in_ok-is_at_end.ensures.end c.if-branch.true in
-    finished_of _ _ _ _ _ _ at end.0 end.1 (omega arith)
+    rw c.unwrap_or-then-branch.ensures (finished_of _ _ _ _ _ _ at end.0 end.1 (omega arith))
 
 pub returns-clause-fault : goal.returns-clause-fault
 returns-clause-fault g c =

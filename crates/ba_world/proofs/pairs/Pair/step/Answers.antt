@@ -1,3 +1,4 @@
+use Rattle.ba_world.proofs.Outcomes.{step_recorded}
 use Rattle.ba_world.proofs.Steps.{step_fits, step_in_place, step_moves}
 use Rattle.ba_world.proofs.pairs.Pair.step.Goals as goal
 
@@ -16,3 +17,7 @@ returns-clause-fits c =
 pub returns-clause-in_place : goal.returns-clause-in_place
 returns-clause-in_place c =
     step_in_place c.self.inside.sides c.args.e.now c.happen.new.self c.happen.result c.self.invariant (c.happen.ensures.step, c.happen.ensures.unchanged)
+
+pub returns-clause-recorded : goal.returns-clause-recorded
+returns-clause-recorded c =
+    rw (← c.self.view_is) (step_recorded c.self.inside.sides c.args.e.now c.happen.new.self c.happen.result c.happen.ensures.step)
