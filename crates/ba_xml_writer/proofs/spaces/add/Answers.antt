@@ -1,0 +1,7 @@
+use Rattle.std.proofs.Common.{sym}
+use Rattle.ba_xml_writer.proofs.Collecting.{inserted}
+use Rattle.ba_xml_writer.proofs.spaces.add.Goals as goal
+
+pub returns-in-Ok : goal.returns-in-Ok
+returns-in-Ok c rest =
+    inserted c.args.spaces.now.keys c.insert.new.self.keys c.args.space rest (sym c.if-not-needs_number.ensures) c.in-Ok.ensures.keys
