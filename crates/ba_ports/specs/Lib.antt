@@ -1,5 +1,9 @@
 pub mod Causes
 pub mod Counts
+pub mod Disk
+pub mod DiskLaws
+pub mod DiskValue
+pub mod MediumFits
 pub mod OutState
 pub mod ReadSourceState
 pub mod Streams

@@ -1,0 +1,4 @@
+pub mod DiskCalls
+pub mod MediumKept
+pub mod Moments
+pub mod Turns

@@ -1,0 +1,9 @@
+pub mod Bases
+pub mod Exact
+pub mod ExactRecords
+pub mod ExactTrees
+pub mod Fitting
+pub mod Lengths
+pub mod Onward
+pub mod Parts
+pub mod Trees

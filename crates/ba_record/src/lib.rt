@@ -1,0 +1,20 @@
+//! The records of a node's journal, and the one coding that each of them has.
+#![tactic(auto)]
+
+mod elements;
+mod endpoints;
+mod fields;
+mod laws;
+mod reader;
+mod records;
+mod sizes;
+mod writer;
+
+pub use laws::records_are_read_back;
+pub use reader::get;
+pub use records::{Record, RecordFault};
+pub use sizes::size_of;
+pub use writer::put;
+
+#[cfg(test)]
+mod tests;
