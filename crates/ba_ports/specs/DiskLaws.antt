@@ -1,6 +1,7 @@
 -- A MemDisk keeps the laws of a disk.
 use Rattle.std.specs.Prelude.{◌≡◌, ◌+◌, ◌-◌, ◌/◌, ◌<◌, ◌≤◌, ℕ, Bool, true, false, List, [], ◌∷◌, ◌++◌, length, take, drop, replicate, Some, None, if◌then◌else◌, refl}
 use Rattle.std.proofs.Common.{sym, ◌∙◌, ap, subst, ⊎_elim, arith, append_assoc, length-append, length-drop, take-append-drop}
+use Rattle.std.proofs.Math.Seq.{take-append_seam, take-append-add}
 use Rattle.std.proofs.lemmas.Bool.{cases_lt}
 use Rattle.std.proofs.lemmas.Bool.Decides.{nat_tests}
 use Rattle.std.proofs.lemmas.List.{append-nil, drop_at, take_all, drop_all, length-replicate, length-take, length-take-le, drop-drop}
@@ -121,6 +122,23 @@ pub left_only_now : (m : MediumValue) (c : List ℕ) → MayHaveBeenLeft m m c �
 left_only_now m c left =
     let none : take left.0 (drop (length m.calls) m.calls) ≡ [] = ap (take left.0) (drop_all (length m.calls) m.calls (omega arith)) ∙ take_all left.0 [] (omega arith) in
     subst (λ (l : List Call). MayBeLeft (after_all l m) c) none left.1
+
+-- what some of the calls between two states left may have been left between an earlier state and a later one
+pub left_widened : (a b c d : MediumValue) (left : List ℕ) → IsLater a b → IsLater b c → IsLater c d → MayHaveBeenLeft b c left → MayHaveBeenLeft a d left
+unfolding later_on
+left_widened a b c d left first second third some =
+    let whole = later_on a c d (later_on a b c first second) third in
+    let calls : drop (length a.calls) d.calls ≡ first.0 ++ (second.0 ++ third.0) = more_of a d whole ∙ append_assoc first.0 second.0 third.0 in
+    let made : List Call = take some.0 second.0 in
+    let between : MayBeLeft (after_all made b) left = subst (λ (l : List Call). MayBeLeft (after_all (take some.0 l) b) left) (more_of b c second) some.1 in
+    let short : length made ≤ length second.0 = omega (arith, length-take some.0 second.0) in
+    let front : take (length made) (second.0 ++ third.0) ≡ made =
+    ap (λ (l : List Call). take (length made) (l ++ third.0)) (sym (take-append-drop some.0 second.0))
+    ∙ ap (take (length made)) (append_assoc made (drop some.0 second.0) third.0) ∙ take-append_seam made (drop some.0 second.0 ++ third.0) in
+    let taken : take (length first.0 + length made) (drop (length a.calls) d.calls) ≡ first.0 ++ made =
+    ap (take (length first.0 + length made)) calls ∙ take-append-add first.0 (second.0 ++ third.0) (length made) ∙ ap (λ (l : List Call). first.0 ++ l) front in
+    let there : after_all (first.0 ++ made) a ≡ after_all made b = after_append first.0 made a ∙ ap (after_all made) (sym first.2) in
+    (length first.0 + length made, subst (λ (m : MediumValue). MayBeLeft m left) (sym (ap (λ (l : List Call). after_all l a) taken ∙ there)) between)
 
 -- Calls that lead on
 

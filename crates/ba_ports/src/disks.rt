@@ -43,8 +43,8 @@ pub trait Disk {
         ensures driven { driven self.old (called request.Len result ∷ []) self.new }
         ensures cause { HasCause (faults self.old) (faults self.new) result };
 
-    /// Moves bytes from a place on into the room, and says how many: at least one where the file has
-    /// one there, and none at the file's end or past it.
+    /// Moves bytes from a place on into the room, and says how many: at least one where the room isn't
+    /// empty and the file has one there, and none at the file's end or past it.
     fn read_at(&mut self, place: u64, room: &mut [u8]) -> Result<usize, Failed>
         ensures bound { ReadsAtMost result room.new }
         ensures bytes { IsTrue (follows self.old) → IfOk result (λ n. Reads (seen self.old) place n room.old room.new) }
@@ -55,7 +55,7 @@ pub trait Disk {
         ensures driven { driven self.old (called (request.ReadAt place (length room.old)) result ∷ []) self.new }
         ensures cause { HasCause (faults self.old) (faults self.new) result };
 
-    /// Writes a piece at a place, over what is there and past the end. A write that would end past the
+    /// Writes a piece at a place, which is at most the length, over what is there and past the end. A write that would end past the
     /// greatest u64 fails.
     fn write_at(&mut self, place: u64, piece: &[u8]) -> Result<(), Failed>
         requires { IsTrue (follows self.old) → place ≤ length (seen self.old) }
@@ -68,7 +68,7 @@ pub trait Disk {
         ensures driven { driven self.old (called (request.WriteAt place piece.now) result ∷ []) self.new }
         ensures cause { HasCause (faults self.old) (faults self.new) result };
 
-    /// Cuts the file to a length in bytes.
+    /// Cuts the file to a length in bytes, which is at most its own.
     fn cut(&mut self, len: u64) -> Result<(), Failed>
         requires { IsTrue (follows self.old) → len ≤ length (seen self.old) }
         ensures cut { IsTrue (follows self.old) → OnOk result (seen self.new ≡ take len (seen self.old)) }
@@ -95,7 +95,7 @@ pub trait Disk {
 
     // A crash may leave what a read gives.
     ghost seen_may_stay: { (disk : Self) → IsTrue (follows disk) → may_leave disk (seen disk) };
-    // A state is later than itself, and so on.
+    // A state is later than itself, and later is transitive.
     ghost no_call: { (disk : Self) → later disk disk };
 
     ghost call_after_call: { (a b c : Self) → later a b → later b c → later a c };
@@ -103,6 +103,8 @@ pub trait Disk {
     ghost counts_now: { (a b : Self) (c : List ℕ) → later a b → may_leave b c → left_between a b c };
 
     ghost only_now: { (disk : Self) (c : List ℕ) → left_between disk disk c → may_leave disk c };
+    // Since an earlier state, or up to a later one, no fewer outcomes.
+    ghost widens: { (a b c d : Self) (left : List ℕ) → later a b → later b c → later c d → left_between b c left → left_between a d left };
     // Calls follow one another, and the counted ones are those by which the list that is told grows.
     ghost driven_by_none: { (disk : Self) → driven disk [] disk };
 

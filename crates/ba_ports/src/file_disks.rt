@@ -62,6 +62,8 @@ impl Disk for FileDisk {
 
     ghost only_now = { λ disk c left. tt };
 
+    ghost widens = { λ a b c d left first second third some. tt };
+
     ghost driven_by_none = { λ disk. tt };
 
     ghost driven_on = { λ a b c first second before behind. tt };

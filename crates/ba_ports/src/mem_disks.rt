@@ -3,7 +3,7 @@ ghost use Rattle.std.specs.Prelude.{◌≡◌, ◌≤◌, ◌<◌, ◌^◌, [], 
 ghost use Rattle.ba_ports.specs.Counts.{risen};
 ghost use Rattle.ba_ports.specs.Disk.{Reads, fail, stop, nothing};
 ghost use Rattle.ba_ports.specs.DiskValue.{bytes_of, goes_wrong, after, starve, Makes, MayBeLeft, IsLater, MayHaveBeenLeft, told, Drives, rearm, restarted, holding};
-ghost use Rattle.ba_ports.specs.DiskLaws.{shown_may_stay, later_none, later_on, left_now, left_only_now, drives_on, lists, keeps_rearmed};
+ghost use Rattle.ba_ports.specs.DiskLaws.{shown_may_stay, later_none, later_on, left_now, left_only_now, left_widened, drives_on, lists, keeps_rearmed};
 ghost use Rattle.ba_ports.specs.declared.requests.Request.TheVariants as request;
 
 use crate::changes::{Change, copied};
@@ -179,6 +179,8 @@ impl Disk for MemDisk {
     ghost counts_now = { λ a b c later left. left_now a.medium b.medium c later left };
 
     ghost only_now = { λ disk c left. left_only_now disk.medium c left };
+
+    ghost widens = { λ a b c d left first second third some. left_widened a.medium b.medium c.medium d.medium left first second third some };
 
     ghost driven_by_none = { λ disk told. refl };
 
