@@ -67,18 +67,18 @@ fn keyed(alloc: Global) -> Result<Epr, Memory> {
     Ok(epr)
 }
 
-// The record is written as these bytes, one piece after another, and what is read from them is written so again.
+// The record is what is read from these bytes, and what is read is written so again.
 fn is_written(alloc: Global, r: Record, pieces: &[&[u8]]) -> Result<bool, Fail> {
     let mut want = List::new(alloc);
     for piece in pieces {
         want.append(piece)?;
     }
-    let mut out = List::new(alloc);
-    put(alloc, &r, &mut out)?;
     let again = get(alloc, want.as_slice())?;
-    let mut second = List::new(alloc);
-    put(alloc, &again, &mut second)?;
-    Ok(size_of(&r) == want.len() as u64 && out == want && second == want)
+    let mut out = List::new(alloc);
+    put(alloc, &again, &mut out)?;
+    let shown = format!(in alloc; "{again:?}")?;
+    let wanted = format!(in alloc; "{r:?}")?;
+    Ok(size_of(&again) == want.len() as u64 && out == want && shown == wanted)
 }
 
 #[test]
