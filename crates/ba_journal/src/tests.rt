@@ -77,8 +77,9 @@ fn fresh_files(rt: HostRuntime) -> Result<(), Fail> {
     ] {
         assert_eq!(rt; found(alloc, file), Ok(None), "at {}", file.len());
     }
-    let unset = with(alloc, 0, 0)?;
-    assert_eq!(rt; found(alloc, &unset.as_slice()[..17]), Ok(None));
+    let mut unset = Octets::of(Vec::from_slice(alloc, b"\0")?);
+    unset.append(&SMALLEST[1..17])?;
+    assert_eq!(rt; found(alloc, unset.as_slice()), Ok(None));
     assert_eq!(rt; found(alloc, b"something else"), Ok(None));
     Ok(())
 }
