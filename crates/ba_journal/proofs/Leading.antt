@@ -9,16 +9,16 @@ use Rattle.ba_record.specs.declared.records.RecordFault.{RecordFault}
 use Rattle.ba_record.specs.declared.records.RecordFault.TheVariants as fault
 use Rattle.ba_journal.specs.Frames.{is_fresh, payload_of, frame_of, Leads, AreRecords, fault_place}
 
-abbrev framed : Bool → ℕ → List ℕ → Option (List ℕ × List ℕ)
+abbrev pub framed : Bool → ℕ → List ℕ → Option (List ℕ × List ℕ)
 framed true size bytes = Some (take size bytes, drop size bytes)
 framed false size bytes = None
 
-framed_by : (fits : Bool) (size : ℕ) (bytes : List ℕ) → let none : Option (List ℕ × List ℕ) = None in (if fits then Some (take size bytes, drop size bytes) else none) ≡ framed fits size bytes
+pub framed_by : (fits : Bool) (size : ℕ) (bytes : List ℕ) → let none : Option (List ℕ × List ℕ) = None in (if fits then Some (take size bytes, drop size bytes) else none) ≡ framed fits size bytes
 framed_by true size bytes = refl
 framed_by false size bytes = refl
 
 -- how long a frame is
-some_is : {A : Type 0} {x y : A} → Some x ≡ Some y → x ≡ y
+pub some_is : {A : Type 0} {x y : A} → Some x ≡ Some y → x ≡ y
 some_is h = cc
 
 payload_length : (size : ℕ) (bytes payload next : List ℕ) → (fits : Bool) → nat_lt size (length bytes) ≡ fits

@@ -1,1 +1,4 @@
+pub mod FrameWrites
 pub mod Leading
+pub mod OneMore
+pub mod Sizes
