@@ -64,6 +64,7 @@ impl<D: Disk> Journal<D> {
         ensures closes { (result ≡ Err fault.Disk) → self.new.closed ≡ Some (D.faults self.new.disk) }
         ensures stays_open { OnOk result (self.new.closed ≡ None) }
         ensures unchanged { IfErr result (λ why. why ≢ fault.Disk → self.new ≡ self.old) }
+        ensures no_reading { (place : ℕ) → result ≢ Err (fault.NotAJournal place) }
         ensures cause { (result ≡ Err fault.Disk) → Rose (D.faults self.old.disk) (D.faults self.new.disk) }
         ensures faults { D.faults self.old.disk ≤ D.faults self.new.disk }
     {
