@@ -1,27 +1,17 @@
-//! Texts of XML 1.0 in the part that this product takes: read into trees, exactly.
+//! Texts of XML both ways: the trees that texts mean, and the one text of each tree.
 #![tactic(auto)]
 
-mod classes;
-mod content;
-mod faults;
-mod headings;
 mod laws;
-mod levels;
-mod machine;
-mod names;
-mod octets;
-mod references;
-mod rests;
-mod spaces;
-mod stacks;
-mod states;
-mod tags;
-mod texts;
-mod words;
 
-pub use faults::{Reason, XmlFault};
-pub use laws::{every_text_is_read, places_lie_within, refusals_stay, refused_fronts_are_dead};
-pub use texts::read;
+pub use ba_xml_reader::{Reason, XmlFault, read};
+pub use ba_xml_writer::{writable, write};
+pub use laws::what_is_written_is_read_back;
 
 #[cfg(test)]
-mod tests;
+mod reading_tests;
+#[cfg(test)]
+mod round_trip_tests;
+#[cfg(test)]
+mod test_trees;
+#[cfg(test)]
+mod writing_tests;

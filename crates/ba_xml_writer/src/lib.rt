@@ -13,6 +13,3 @@ mod writer;
 pub use laws::prefixes_resolve;
 pub use limits::writable;
 pub use writer::write;
-
-#[cfg(test)]
-mod tests;

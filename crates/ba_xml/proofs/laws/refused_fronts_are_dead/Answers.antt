@@ -1,9 +1,0 @@
-use Rattle.ba_xml.proofs.WrittenDead.{dead}
-use Rattle.ba_xml.specs.declared.faults.Reason.TheVariants as reason
-use Rattle.ba_xml.proofs.laws.refused_fronts_are_dead.Goals as goal
-
-pub returns-clause-utf8 : goal.returns-clause-utf8
-returns-clause-utf8 c = λ bytes place is. dead bytes reason.NotUtf8 place tt is
-
-pub returns-clause-syntax : goal.returns-clause-syntax
-returns-clause-syntax c = λ bytes place is. dead bytes reason.Syntax place tt is
