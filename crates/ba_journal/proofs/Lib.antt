@@ -1,4 +1,14 @@
+pub mod BlockReads
+pub mod Ends
+pub mod FrameFronts
 pub mod FrameWrites
+pub mod Framing
 pub mod Leading
+pub mod Loadings
+pub mod Looking
+pub mod Meanings
+pub mod NewFile
 pub mod OneMore
 pub mod Sizes
+pub mod Turns
+pub mod Windows

@@ -72,12 +72,12 @@ front_of [] payload next h = absurd cc
 front_of (gate ∷ bytes) payload next h = by_gate gate bytes payload next (nat_eq gate 1) refl h
 
 -- frames one after another: their own bytes, before others
-record Fronts (bytes : List ℕ) (payloads : List (List ℕ)) (rest : List ℕ) : Type 0 where
-  own : List ℕ
-  is : bytes ≡ own ++ rest
-  other : (o : List ℕ) → 0 < length o → Leads (own ++ o) payloads o
+pub record Fronts (bytes : List ℕ) (payloads : List (List ℕ)) (rest : List ℕ) : Type 0 where
+  pub own : List ℕ
+  pub is : bytes ≡ own ++ rest
+  pub other : (o : List ℕ) → 0 < length o → Leads (own ++ o) payloads o
 
-fronts_of : (bytes : List ℕ) (payloads : List (List ℕ)) (rest : List ℕ) → Leads bytes payloads rest → Fronts bytes payloads rest
+pub fronts_of : (bytes : List ℕ) (payloads : List (List ℕ)) (rest : List ℕ) → Leads bytes payloads rest → Fronts bytes payloads rest
 fronts_of bytes [] rest leads = record { own = []; is = sym leads; other = λ o some. refl }
 fronts_of bytes (payload ∷ payloads) rest leads =
     let first = front_of bytes payload leads.0 leads.1 in
@@ -97,7 +97,7 @@ no_second false = refl
 not_short : (file : List ℕ) → 16 < length file → nat_lt (length file) 17 ≡ false
 not_short file long = grind (arith, nat_tests)
 
-made_with : (own o : List ℕ) → 0 < length o → is_fresh (header ++ (own ++ o)) ≡ false
+pub made_with : (own o : List ℕ) → 0 < length o → is_fresh (header ++ (own ++ o)) ≡ false
 made_with own o some =
     let long : 16 < length (header ++ (own ++ o)) = omega (arith, length-append header (own ++ o), length-append own o, some) in
     ap (λ (b : Bool). b || (nat_eq (length (header ++ (own ++ o))) 17 && false)) (not_short (header ++ (own ++ o)) long) ∙ no_second (nat_eq (length (header ++ (own ++ o))) 17)

@@ -1,4 +1,10 @@
 pub mod Answers
+pub mod Blocks
 pub mod Calls
 pub mod Frames
+pub mod JournalValue
+pub mod Loads
+pub mod Looks
+pub mod Openings
+pub mod Readings
 pub mod Scans

@@ -44,8 +44,12 @@ fn puts_a_frame_last(rt: HostRuntime) -> Result<(), Fail> {
     let alloc = rt.alloc();
     let disk = smallest(alloc)?;
     let mut journal = Journal::resting(alloc, disk, 40);
+    journal.reserve(9)?;
     assert_eq!(rt; journal.append(&Record::Asked(7)), Ok(()));
-    assert_eq!(rt; journal.faults(), 0);
+    assert_eq!(rt;
+        (journal.faults(), journal.stopped(), journal.starved()),
+        (0, false, false)
+    );
     let disk = journal.into_disk();
     assert_eq!(rt; disk.bytes(), LONGER.as_slice());
     assert_eq!(rt; found(alloc, disk.bytes()), Ok((2, true)));
@@ -57,10 +61,12 @@ fn stops_at_each_call(rt: HostRuntime) -> Result<(), Fail> {
     let alloc = rt.alloc();
     for k in 1..5 {
         for image in IMAGES {
-            let mut disk = smallest(alloc)?;
-            disk.stop_next(k, image);
+            let disk = smallest(alloc)?;
             let mut journal = Journal::resting(alloc, disk, 40);
+            journal.reserve(9)?;
+            journal.stop_next(k, image);
             assert_eq!(rt; journal.append(&Record::Asked(7)), Err(JournalFault::Disk));
+            assert!(rt; journal.stopped());
             let mut disk = journal.into_disk();
             disk.restart();
             let (records, _) = found(alloc, disk.bytes())?;
@@ -76,9 +82,10 @@ fn stops_at_each_call(rt: HostRuntime) -> Result<(), Fail> {
 fn closes_after_a_failure(rt: HostRuntime) -> Result<(), Fail> {
     let alloc = rt.alloc();
     for k in 1..5 {
-        let mut disk = smallest(alloc)?;
-        disk.fail_next(k);
+        let disk = smallest(alloc)?;
         let mut journal = Journal::resting(alloc, disk, 40);
+        journal.reserve(9)?;
+        journal.fail_next(k);
         assert_eq!(rt; journal.append(&Record::Asked(7)), Err(JournalFault::Disk));
         assert_eq!(rt;
             journal.append(&Record::Asked(8)),
@@ -86,5 +93,21 @@ fn closes_after_a_failure(rt: HostRuntime) -> Result<(), Fail> {
         );
         assert_eq!(rt; journal.faults(), 1);
     }
+    Ok(())
+}
+
+#[test]
+fn appends_after_disarming(rt: HostRuntime) -> Result<(), Fail> {
+    let alloc = rt.alloc();
+    let mut journal = Journal::resting(alloc, smallest(alloc)?, 40);
+    // The room for a longer record serves a shorter one, and again.
+    journal.reserve(9)?;
+    journal.reserve(1)?;
+    journal.fail_next(2);
+    journal.disarm();
+    assert_eq!(rt; journal.append(&Record::Asked(7)), Ok(()));
+    assert_eq!(rt; journal.append(&Record::Asked(8)), Ok(()));
+    let disk = journal.into_disk();
+    assert_eq!(rt; found(alloc, disk.bytes()), Ok((3, true)));
     Ok(())
 }

@@ -1,19 +1,21 @@
 //! The journal of a node on its disk.
-ghost use Rattle.std.specs.Prelude.{◌≡◌, ◌≢◌, ◌↔◌, ◌+◌, ◌<◌, ◌≤◌, ◌++◌, [], ◌∷◌, ℕ, List, None, Some, Err, length, IsTrue, IfErr, OnOk};
+ghost use Rattle.std.specs.Prelude.{◌≡◌, ◌≢◌, ◌↔◌, ◌+◌, ◌<◌, ◌≤◌, ◌++◌, [], ◌∷◌, ℕ, List, None, Some, Err, length, max, IsTrue, IfErr, OnOk, OnErr};
 ghost use Rattle.ba_journal.specs.Answers.{GoesPast, Asked};
 ghost use Rattle.ba_journal.specs.Calls.{behind_gate, IsSettled, StandsWithOrWithout};
 ghost use Rattle.ba_journal.specs.declared.faults.JournalFault.TheVariants as fault;
 ghost use Rattle.ba_ports.specs.Causes.{Rose};
-ghost use Rattle.ba_ports.specs.Disk.{LeavesOnly};
+ghost use Rattle.ba_ports.specs.Disk.{LeavesOnly, fail, stop, nothing};
 ghost use Rattle.ba_ports.specs.declared.requests.Call.{Call};
 ghost use Rattle.ba_record.specs.Coding.{coding, InRange};
 
 use crate::appending::put_frame;
 use crate::faults::JournalFault;
-use crate::payloads::behind_gate_of;
-use ba_ports::Disk;
-use ba_record::{Record, size_of};
+use crate::payloads::put_behind_gate;
+use ba_core::Memory;
+use ba_ports::{Disk, Faulty, Image};
+use ba_record::{Record, Room, size_of};
 use std::alloc::Global;
+use std::marker::Model;
 
 /// How long a journal's file may be, in bytes.
 pub const GREATEST_LENGTH: u64 = 67_108_864;
@@ -21,10 +23,22 @@ pub const GREATEST_LENGTH: u64 = 67_108_864;
 /// A file of records on a disk, which grows by one record at a time.
 #[derive(Drop)]
 pub struct Journal<D> {
-    alloc: Global,
     disk: D,
     gate: u64,
     closed: Option<u64>,
+    // What is put behind the gate is built in here.
+    room: Room,
+}
+
+impl<D> Model for Journal<D> {
+    ghost use Rattle.std.specs.Prelude.{◌-◌};
+    ghost use Rattle.ba_journal.specs.JournalValue.{JournalValue, journal_code};
+
+    ghost Value = { JournalValue D };
+
+    ghost coded = { journal_code D.code };
+
+    ghost view = { λ journal. record { disk = journal.disk; gate = journal.gate; closed = journal.closed; spare = journal.room.size - 5 } };
 }
 
 impl<D: Disk> Journal<D> {
@@ -34,20 +48,35 @@ impl<D: Disk> Journal<D> {
         ensures disk { result.disk ≡ disk }
         ensures gate { result.gate ≡ gate }
         ensures closed { result.closed ≡ None }
+        ensures spare { result.spare ≡ 0 }
     {
         Journal {
-            alloc,
             disk,
             gate,
             closed: None,
+            room: Room::new(alloc),
         }
     }
 
-    /// Puts a record last. When this is Ok, the record outlives every crash; a crash during the call leaves the
-    /// journal with it or without it. Full comes exactly where the file would grow too long, and Closed exactly
-    /// after Disk. Only Ok and Disk change anything.
+    /// Takes memory, so that an append takes none of a record whose coding has at most so many bytes. After
+    /// `Memory` nothing has changed.
+    pub fn reserve(&mut self, bytes: u64) -> Result<(), Memory>
+        ensures ok { OnOk result (self.new ≡ record self.old { spare = max self.old.spare bytes }) }
+        ensures err { OnErr result (self.new ≡ self.old) }
+    {
+        // The size stands before the payload, and the next gate behind it.
+        match bytes.checked_add(5) {
+            Some(size) => self.room.reserve(size),
+            None => Err(Memory),
+        }
+    }
+
+    /// Puts a record last, which takes no memory. When this is Ok, the record outlives every crash; a crash during
+    /// the call leaves the journal with it or without it. Full comes exactly where the file would grow too long, and
+    /// Closed exactly after Disk. Only Ok and Disk change anything.
     pub fn append(&mut self, r: &Record) -> Result<(), JournalFault>
         requires in_range { InRange r.now }
+        requires spare { length (coding r.now) ≤ self.old.spare }
         requires place { IsTrue (D.follows self.old.disk) → self.old.closed ≡ None → self.old.gate + 1 ≡ length (D.seen self.old.disk) }
         ensures acknowledged { OnOk result (IsTrue (D.follows self.old.disk) → (records : List Record) →
             IsSettled D.seen D.may_leave self.old.disk self.old.gate records
@@ -63,6 +92,10 @@ impl<D: Disk> Journal<D> {
         ensures closed { (count : ℕ) → (result ≡ Err (fault.Closed count)) ↔ (self.old.closed ≡ Some count) }
         ensures closes { (result ≡ Err fault.Disk) → self.new.closed ≡ Some (D.faults self.new.disk) }
         ensures stays_open { OnOk result (self.new.closed ≡ None) }
+        ensures grows { OnOk result (self.new.gate ≡ self.old.gate + (length (coding r.now) + 5)) }
+        ensures stays { OnErr result (self.new.gate ≡ self.old.gate) }
+        ensures no_memory { result ≢ Err fault.Memory }
+        ensures spare { self.new.spare ≡ self.old.spare }
         ensures unchanged { IfErr result (λ why. why ≢ fault.Disk → self.new ≡ self.old) }
         ensures no_reading { (place : ℕ) → result ≢ Err (fault.NotAJournal place) }
         ensures cause { (result ≡ Err fault.Disk) → Rose (D.faults self.old.disk) (D.faults self.new.disk) }
@@ -75,10 +108,8 @@ impl<D: Disk> Journal<D> {
         if size.saturating_add(6) > GREATEST_LENGTH.saturating_sub(self.gate) {
             return Err(JournalFault::Full);
         }
-        let Ok(behind) = behind_gate_of(self.alloc, r, size as u32) else {
-            return Err(JournalFault::Memory);
-        };
-        match put_frame(&mut self.disk, self.gate, behind.as_slice()) {
+        put_behind_gate(r, size as u32, &mut self.room);
+        match put_frame(&mut self.disk, self.gate, self.room.as_slice()) {
             Ok(()) => {
                 self.gate += size + 5;
                 Ok(())
@@ -103,5 +134,45 @@ impl<D: Disk> Journal<D> {
     {
         let Journal { disk, .. } = self;
         disk
+    }
+}
+
+impl<D: Faulty> Journal<D> {
+    /// Arms a failure of the disk's k-th counted call from now, in place of what is armed.
+    pub fn fail_next(&mut self, k: u32)
+        ensures armed { D.rearmed self.old.disk (fail k) self.new.disk }
+        ensures kept { self.new ≡ record self.old { disk = self.new.disk } }
+    {
+        self.disk.fail_next(k);
+    }
+
+    /// Arms a stop of the disk's machine at its k-th counted call from now, in place of what is armed.
+    pub fn stop_next(&mut self, k: u32, image: Image)
+        ensures armed { D.rearmed self.old.disk (stop k image) self.new.disk }
+        ensures kept { self.new ≡ record self.old { disk = self.new.disk } }
+    {
+        self.disk.stop_next(k, image);
+    }
+
+    /// Takes back what is armed.
+    pub fn disarm(&mut self)
+        ensures armed { D.rearmed self.old.disk nothing self.new.disk }
+        ensures kept { self.new ≡ record self.old { disk = self.new.disk } }
+    {
+        self.disk.disarm();
+    }
+
+    /// The machine of the disk has stopped.
+    pub fn stopped(&self) -> bool
+        ensures { result ≡ D.is_stopped self.now.disk }
+    {
+        self.disk.stopped()
+    }
+
+    /// A counted call of the disk found no memory, had no effect and was counted as a fault.
+    pub fn starved(&self) -> bool
+        ensures { result ≡ D.is_starved self.now.disk }
+    {
+        self.disk.starved()
     }
 }

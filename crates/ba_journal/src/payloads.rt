@@ -1,21 +1,20 @@
 //! What is put behind the last gate of a journal's file.
-ghost use Rattle.std.specs.Prelude.{◌≡◌, ◌<◌, ◌^◌, length, IfOk};
+ghost use Rattle.std.specs.Prelude.{◌≡◌, ◌+◌, ◌≤◌, length};
 ghost use Rattle.ba_journal.specs.Calls.{behind_gate};
 ghost use Rattle.ba_record.specs.Coding.{coding, InRange};
 
-use ba_core::{List, Memory, Octets};
-use ba_record::{Record, put};
-use std::alloc::Global;
+use ba_record::{Record, Room, put_in};
 
-/// The record's frame behind its gate, and the next gate. The size is that of the record's coding, in bytes.
-pub fn behind_gate_of(alloc: Global, r: &Record, size: u32) -> Result<Octets, Memory>
+/// Makes the room hold the record's frame behind its gate, and the next gate, which takes no memory. The size is that
+/// of the record's coding, in bytes.
+pub fn put_behind_gate(r: &Record, size: u32, room: &mut Room)
     requires in_range { InRange r.now }
     requires size { size ≡ length (coding r.now) }
-    ensures { IfOk result (λ bytes. bytes ≡ behind_gate (coding r.now)) }
+    requires fits { size + 5 ≤ room.old.size }
+    ensures { room.new ≡ record room.old { bytes = behind_gate (coding r.now) } }
 {
-    let mut bytes = List::new(alloc);
-    bytes.append(size.to_le_bytes().as_slice())?;
-    put(alloc, r, &mut bytes)?;
-    bytes.append(&[0])?;
-    Ok(bytes)
+    room.clear();
+    room.put_bytes(size.to_le_bytes().as_slice());
+    put_in(r, room);
+    room.put_bytes(&[0]);
 }

@@ -40,7 +40,7 @@ pub fn scan(alloc: Global, file: &[u8]) -> Result<Scan, ScanFault>
 
 // Puts the record that a payload is last. The payload stands at this place of the file.
 #[tactic(auto, using(crate::proofs::Leading::fault_within))]
-fn take_in(
+pub fn take_in(
     alloc: Global,
     place: usize,
     payload: &[u8],

@@ -2,8 +2,10 @@ pub mod Bases
 pub mod Exact
 pub mod ExactRecords
 pub mod ExactTrees
+pub mod Filling
 pub mod Fitting
 pub mod Lengths
+pub mod LongBytes
 pub mod Onward
 pub mod Parts
 pub mod Trees

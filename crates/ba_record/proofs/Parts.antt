@@ -1,5 +1,5 @@
 -- The codings of many parts, written one by one.
-use Rattle.std.proofs.Common.{◌≡◌, ℕ, ◌+◌, ◌<◌, List, [], ◌∷◌, ◌++◌, length, drop, map, get_or, ap, sym, ◌∙◌, append_assoc, append-nil, add-one, arith, length-append, ◌≤◌, Result, Ok, Err, OnOk}
+use Rattle.std.proofs.Common.{◌≡◌, ℕ, ◌+◌, ◌<◌, List, [], ◌∷◌, ◌++◌, length, drop, map, get_or, ap, sym, ◌∙◌, add-one, arith, length-append, ◌≤◌}
 use Rattle.std.proofs.Math.Seq.{drop-cons, drop-length}
 use Rattle.ba_tree.specs.declared.trees.Tree.{Tree}
 use Rattle.ba_tree.specs.declared.trees.Content.{Content}
@@ -9,38 +9,46 @@ use Rattle.ba_tree.specs.Endpoints.{Fits, in_u64, endpoint_length}
 use Rattle.ba_tree.specs.Trees.{joined}
 use Rattle.ba_record.specs.Coding.{content_coding, tree_coding, string_coding, endpoint_coding}
 use Rattle.ba_record.specs.Endpoints.{IsBase}
+use Rattle.ba_record.specs.Rooms.{RoomValue, filled}
+use Rattle.ba_record.proofs.Filling.{filled_on, filled_none}
 use Rattle.ba_record.proofs.Lengths.{endpoint_length_is}
 use Rattle.ba_record.proofs.Trees.{text_coding, child_coding}
 
--- what is written is this front, and these parts come yet
+-- a room into which these parts come yet
 module _ {A : Type 0} (coding : A → List ℕ) (parts : List A) where
-  pub part_put : (i : ℕ) (d : A) (out whole : List ℕ) → i < length parts → out ++ joined (map coding (drop i parts)) ≡ whole
-      → (out ++ coding (get_or parts i d)) ++ joined (map coding (drop (i + 1) parts)) ≡ whole
+  pub part_put : (i : ℕ) (d : A) (out whole : RoomValue) → i < length parts → filled out (joined (map coding (drop i parts))) ≡ whole
+      → filled (filled out (coding (get_or parts i d))) (joined (map coding (drop (i + 1) parts))) ≡ whole
   part_put i d out whole more is =
-      append_assoc out (coding (get_or parts i d)) (joined (map coding (drop (i + 1) parts)))
-      ∙ ap (λ (n : ℕ). out ++ (coding (get_or parts i d) ++ joined (map coding (drop n parts)))) (add-one i)
-      ∙ ap (λ (xs : List A). out ++ joined (map coding xs)) (sym (drop-cons parts i d more)) ∙ is
+      filled_on out (coding (get_or parts i d)) (joined (map coding (drop (i + 1) parts)))
+      ∙ ap (λ (n : ℕ). filled out (coding (get_or parts i d) ++ joined (map coding (drop n parts)))) (add-one i)
+      ∙ ap (λ (xs : List A). filled out (joined (map coding xs))) (sym (drop-cons parts i d more)) ∙ is
 
-  pub all_put : (n : ℕ) (out whole : List ℕ) → n ≡ length parts → out ++ joined (map coding (drop n parts)) ≡ whole → out ≡ whole
+  pub all_put : (n : ℕ) (out whole : RoomValue) → n ≡ length parts → filled out (joined (map coding (drop n parts))) ≡ whole → out ≡ whole
   all_put n out whole all is =
-      sym (append-nil out) ∙ ap (λ (xs : List A). out ++ joined (map coding xs)) (sym (ap (λ (m : ℕ). drop m parts) all ∙ drop-length parts)) ∙ is
+      sym (filled_none out) ∙ ap (λ (xs : List A). filled out (joined (map coding xs))) (sym (ap (λ (m : ℕ). drop m parts) all ∙ drop-length parts)) ∙ is
 
--- what follows where a call is Ok
-pub so_ok : {A E P Q : Type 0} (r : Result A E) → (P → Q) → OnOk r P → OnOk r Q
-so_ok (Ok a) f p = f p
-so_ok (Err e) f p = tt
+  -- the same, as a loop over equal items meets it
+  pub one_put : (items : List A) (i : ℕ) (item : A) (out new whole : RoomValue) → items ≡ parts → i < length items → item ≡ get_or items i item
+      → new ≡ filled out (coding item) → filled out (joined (map coding (drop i parts))) ≡ whole
+      → filled new (joined (map coding (drop (i + 1) parts))) ≡ whole
+  one_put items i item out new whole same more there put is =
+      let here : item ≡ get_or parts i item = there ∙ ap (λ (xs : List A). get_or xs i item) same in
+      ap (λ (room : RoomValue). filled room (joined (map coding (drop (i + 1) parts)))) (put ∙ ap (λ (a : A). filled out (coding a)) here)
+      ∙ part_put i item out whole (omega (arith, more, ap length same)) is
 
--- one part was written behind another
-pub put_behind : (out a new x y : List ℕ) → a ≡ out ++ x → new ≡ a ++ y → new ≡ out ++ (x ++ y)
-put_behind out a new x y first second = second ∙ ap (λ (xs : List ℕ). xs ++ y) first ∙ append_assoc out x y
+-- one part was put behind another
+pub put_behind : (out a new : RoomValue) (x y : List ℕ) → a ≡ filled out x → new ≡ filled a y → new ≡ filled out (x ++ y)
+put_behind out a new x y first second = second ∙ ap (λ (room : RoomValue). filled room y) first ∙ filled_on out x y
 
-pub text_put : (out a new text : List ℕ) (c : Content) → c ≡ Text text → a ≡ out ++ 0 ∷ [] → new ≡ a ++ string_coding text → new ≡ out ++ content_coding c
+pub text_put : (out a new : RoomValue) (text : List ℕ) (c : Content) → c ≡ Text text → a ≡ filled out (0 ∷ []) → new ≡ filled a (string_coding text)
+    → new ≡ filled out (content_coding c)
 text_put out a new text c is first second =
-    put_behind out a new (0 ∷ []) (string_coding text) first second ∙ ap (λ (xs : List ℕ). out ++ xs) (sym (ap content_coding is ∙ text_coding text))
+    put_behind out a new (0 ∷ []) (string_coding text) first second ∙ ap (λ (xs : List ℕ). filled out xs) (sym (ap content_coding is ∙ text_coding text))
 
-pub child_put : (out a new : List ℕ) (tree : Tree) (c : Content) → c ≡ Child tree → a ≡ out ++ 1 ∷ [] → new ≡ a ++ tree_coding tree → new ≡ out ++ content_coding c
+pub child_put : (out a new : RoomValue) (tree : Tree) (c : Content) → c ≡ Child tree → a ≡ filled out (1 ∷ []) → new ≡ filled a (tree_coding tree)
+    → new ≡ filled out (content_coding c)
 child_put out a new tree c is first second =
-    put_behind out a new (1 ∷ []) (tree_coding tree) first second ∙ ap (λ (xs : List ℕ). out ++ xs) (sym (ap content_coding is ∙ child_coding tree))
+    put_behind out a new (1 ∷ []) (tree_coding tree) first second ∙ ap (λ (xs : List ℕ). filled out xs) (sym (ap content_coding is ∙ child_coding tree))
 
 -- ---- lengths
 

@@ -1,3 +1,4 @@
 pub mod Coding
 pub mod Endpoints
 pub mod Reading
+pub mod Rooms

@@ -7,14 +7,16 @@ mod fields;
 mod laws;
 mod reader;
 mod records;
+mod rooms;
 mod sizes;
 mod writer;
 
-pub use laws::records_are_read_back;
+pub use laws::{long_bytes_are_refused_by_their_front, records_are_read_back};
 pub use reader::get;
 pub use records::{Record, RecordFault};
+pub use rooms::Room;
 pub use sizes::size_of;
-pub use writer::put;
+pub use writer::{put, put_in};
 
 #[cfg(test)]
 mod tests;

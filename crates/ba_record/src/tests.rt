@@ -1,6 +1,6 @@
 //! Each kind with its bytes worked out by hand, the place of each bad field, and what each front of a record says.
 
-use crate::{Record, RecordFault, get, put, records_are_read_back, size_of};
+use crate::{Record, RecordFault, Room, get, put, put_in, records_are_read_back, size_of};
 use ba_core::{Act, Kind, List, Memory, Notice, Octets, Protocol, Verdict};
 use ba_tree::{Attribute, Content, Epr, Name, Tree};
 use std::alloc::Global;
@@ -79,6 +79,22 @@ fn is_written(alloc: Global, r: Record, pieces: &[&[u8]]) -> Result<bool, Fail> 
     let shown = format!(in alloc; "{again:?}")?;
     let wanted = format!(in alloc; "{r:?}")?;
     Ok(size_of(&again) == want.len() as u64 && out == want && shown == wanted)
+}
+
+#[test]
+fn a_room_keeps_what_fits(rt: HostRuntime) -> Result<(), Fail> {
+    let mut room = Room::new(rt.alloc());
+    put_in(&Record::Asked(7), &mut room);
+    assert!(rt; room.as_slice().is_empty());
+    room.reserve(10)?;
+    put_in(&Record::Ticked(7), &mut room);
+    put_in(&Record::Asked(7), &mut room);
+    assert_eq!(rt; room.as_slice(), b"\x0b\x07\0\0\0\0\0\0\0\x0c".as_slice());
+    room.clear();
+    room.reserve(1)?;
+    put_in(&Record::Asked(7), &mut room);
+    assert_eq!(rt; room.as_slice(), b"\x0c\x07\0\0\0\0\0\0\0".as_slice());
+    Ok(())
 }
 
 #[test]

@@ -1,5 +1,9 @@
-use Rattle.ba_record.proofs.Parts.{so_ok, put_behind}
+use Rattle.std.proofs.Common.{◌∷◌}
+use Rattle.ba_record.specs.Coding.{counter_coding, endpoint_coding}
+use Rattle.ba_record.proofs.Parts.{put_behind}
 use Rattle.ba_record.proofs.writer.put_enrolled.Goals as goal
 
 pub returns : goal.returns
-returns c = so_ok c.put_endpoint.result (λ e. put_behind _ _ _ _ _ c.in_ok-put_counter.ensures e) c.put_endpoint.ensures
+returns c =
+    put_behind c.args.out.now c.put_counter.new.out c.put_endpoint.new.out (5 ∷ counter_coding c.args.counter) (endpoint_coding c.args.coordinator.now)
+    c.put_counter.ensures c.put_endpoint.ensures

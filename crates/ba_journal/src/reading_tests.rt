@@ -1,0 +1,152 @@
+//! Files on a disk in memory, and what a load finds in them.
+
+use crate::JournalFault;
+use crate::reading::read_file;
+use crate::readings::{Reading, Tail};
+use ba_core::{List, Octets};
+use ba_ports::{Disk, Faulty, Image, MemDisk};
+use std::alloc::Global;
+use std::process::Abort;
+use std::test::Fail;
+
+// The file of node 1 with the base http://node1: the header, one frame, and the last gate.
+const SMALLEST: &[u8] =
+    b"\x01BAJOURNAL\x01\0\0\0\0\0\x01\x13\0\0\0\x01\x01\0\0\0\x0c\0http://node1\0";
+
+// A frame: that 7 was asked.
+const FRAME: &[u8] = b"\x01\x09\0\0\0\x0c\x07\0\0\0\0\0\0\0";
+
+// The first bytes of a list, and others behind them.
+fn joined(alloc: Global, front: &[u8], behind: &[u8]) -> Result<Octets, Fail> {
+    let mut bytes = Octets::of(Vec::from_slice(alloc, front)?);
+    bytes.append(behind)?;
+    Ok(bytes)
+}
+
+// How many records a load finds, at which place it stopped, and what stands there.
+fn load(alloc: Global, file: Octets) -> Result<Option<(usize, u64, Tail)>, JournalFault> {
+    let mut disk = MemDisk::of(alloc, file);
+    match read_file(alloc, &mut disk) {
+        Ok(Reading::Fresh) => Ok(None),
+        Ok(
+            Reading::Found {
+                records,
+                gate,
+                tail,
+            },
+        ) => Ok(Some((records.len(), gate, tail))),
+        Err(fault) => Err(fault),
+    }
+}
+
+// The smallest journal up to its last gate, so many frames more, and this end.
+fn journal_of(alloc: Global, frames: usize, end: &[u8]) -> Result<Octets, Fail> {
+    let mut bytes = joined(alloc, &SMALLEST[..40], b"")?;
+    for _ in 0..frames {
+        bytes.append(FRAME)?;
+    }
+    bytes.append(end)?;
+    Ok(bytes)
+}
+
+#[test]
+fn loads_the_smallest_journal(rt: HostRuntime) -> Result<(), Fail> {
+    let alloc = rt.alloc();
+    let file = joined(alloc, SMALLEST, b"")?;
+    assert_eq!(rt; load(alloc, file), Ok(Some((1, 40, Tail::AtRest))));
+    Ok(())
+}
+
+#[test]
+fn loads_frames_of_many_blocks(rt: HostRuntime) -> Result<(), Fail> {
+    let alloc = rt.alloc();
+    let cases = [
+        (4_677, 4_678, 65_518),
+        (9_359, 9_360, 131_066),
+        (9_360, 9_361, 131_080),
+        (9_361, 9_362, 131_094),
+        (300_000, 300_001, 4_200_040),
+    ];
+    for (frames, records, gate) in cases {
+        let file = journal_of(alloc, frames, b"\0")?;
+        assert_eq!(rt; load(alloc, file), Ok(Some((records, gate, Tail::AtRest))));
+    }
+    Ok(())
+}
+
+#[test]
+fn finds_no_journal_yet(rt: HostRuntime) -> Result<(), Fail> {
+    let alloc = rt.alloc();
+    for count in [0, 1, 16] {
+        let file = joined(alloc, &SMALLEST[..count], b"")?;
+        assert_eq!(rt; load(alloc, file), Ok(None), "at {count}");
+    }
+    let unset = joined(alloc, b"\0", &SMALLEST[1..17])?;
+    assert_eq!(rt; load(alloc, unset), Ok(None));
+    Ok(())
+}
+
+#[test]
+fn finds_no_journal(rt: HostRuntime) -> Result<(), Fail> {
+    let alloc = rt.alloc();
+    for place in 0..16 {
+        let mut bytes = Vec::from_slice(alloc, SMALLEST)?;
+        if place < bytes.len() {
+            bytes[place] = 0xff;
+        }
+        let want = Err(JournalFault::NotAJournal(place as u64));
+        assert_eq!(rt; load(alloc, Octets::of(bytes)), want, "at {place}");
+    }
+    // The last of many frames holds no record: its counter is 0.
+    let file = journal_of(alloc, 20_000, b"\x01\x09\0\0\0\x0c\0\0\0\0\0\0\0\0\0")?;
+    assert_eq!(rt; load(alloc, file), Err(JournalFault::NotAJournal(280_046)));
+    Ok(())
+}
+
+#[test]
+fn finds_what_stands_at_the_end(rt: HostRuntime) -> Result<(), Fail> {
+    let alloc = rt.alloc();
+    let cases: [(&[u8], Tail); 6] = [
+        (b"\0", Tail::AtRest),
+        (b"\0\0", Tail::Closed),
+        (b"\0\xff\x01", Tail::Closed),
+        (b"\x02", Tail::Open),
+        (b"\x01\x09\0\0\0\x0c\x07\0\0\0\0\0\0\0", Tail::Open),
+        (b"\x01\xff\xff\xff\xff\x0c", Tail::Open),
+    ];
+    for (end, tail) in cases {
+        let file = joined(alloc, &SMALLEST[..40], end)?;
+        assert_eq!(rt; load(alloc, file), Ok(Some((1, 40, tail))));
+    }
+    Ok(())
+}
+
+// A payload of 200,000 bytes that begins with a record: the first byte left over is the fault.
+#[test]
+fn refuses_a_long_payload_by_its_front(rt: HostRuntime) -> Result<(), Fail> {
+    let alloc = rt.alloc();
+    let mut file = joined(alloc, &SMALLEST[..40], b"\x01\x40\x0d\x03\0")?;
+    file.append(&FRAME[5..])?;
+    for _ in 0..200_000 {
+        file.append(b"\0")?;
+    }
+    let want = Err(JournalFault::NotAJournal(54));
+    assert_eq!(rt; load(alloc, file), want);
+    Ok(())
+}
+
+#[test]
+fn tells_that_the_disk_failed(rt: HostRuntime) -> Result<(), Fail> {
+    let alloc = rt.alloc();
+    let mut disk = MemDisk::of(alloc, joined(alloc, SMALLEST, b"")?);
+    disk.stop_next(1, Image::Old);
+    assert!(rt; disk.sync().is_err());
+    let failed = match read_file(alloc, &mut disk) {
+        Err(JournalFault::Disk) => true,
+        _ => false,
+    };
+    assert!(rt; failed);
+    disk.restart();
+    assert!(rt; read_file(alloc, &mut disk).is_ok());
+    Ok(())
+}
