@@ -8,7 +8,7 @@ use Rattle.ba_world.specs.PairPlay.{Numbered, Effect, Play, happens, play, playe
 use Rattle.ba.specs.declared.play.PlayFault.{PlayFault}
 use Rattle.ba.specs.declared.play.PlayFault.TheVariants as played
 use Rattle.ba.specs.Output.{Writes, WritesPart}
-use Rattle.ba.specs.Promise.{BreaksOff, BreaksOffAt, effect_text}
+use Rattle.ba.specs.Replaying.{BreaksOff, BreaksOffAt, effect_text}
 use Rattle.ba.specs.Shown.{numbered, shown}
 use Rattle.ba.proofs.Due.{writes_all, writes_on, writes_before, writes_whole, part_before, keeps_appends}
 

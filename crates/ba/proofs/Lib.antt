@@ -5,6 +5,8 @@ pub mod Due
 pub mod Feeds
 pub mod LineCases
 pub mod OneReading
+pub mod Printed
 pub mod Progress
 pub mod Promised
+pub mod Refusals
 pub mod Streaming

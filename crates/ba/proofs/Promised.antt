@@ -1,5 +1,5 @@
 -- What a replay promises, from what its script and its play were.
-use Rattle.std.proofs.Common.{◌≡◌, ℕ, List, [], append-nil, Option, Some, None, IfSome, refl, inl, inr, arith, Result, Ok, Err, OnOk, OnErr, sym, subst}
+use Rattle.std.proofs.Common.{◌≡◌, ℕ, List, [], append-nil, Option, Some, None, IfSome, refl, inl, inr, Result, Ok, Err, OnOk, OnErr, sym, subst}
 use Rattle.std.specs.Io.KnownBytes.{Appends, Keeps}
 use Rattle.ba_world.proofs.Safety.{plays_are_safe}
 use Rattle.ba.specs.declared.play.PlayFault.{PlayFault}
@@ -8,11 +8,9 @@ use Rattle.ba.specs.declared.script.Script.{Script}
 use Rattle.ba.specs.declared.script.Script.TheVariants.{Pair}
 use Rattle.ba.specs.declared.script.ScriptFault.{ScriptFault}
 use Rattle.ba.specs.declared.script.ScriptFault.TheVariants as script
-use Rattle.ba.specs.declared.run.RunFault.{RunFault}
-use Rattle.ba.specs.declared.run.RunFault.TheVariants as ended
 use Rattle.ba.specs.Output.{WritesPart}
 use Rattle.ba.proofs.Due.{writes_none}
-use Rattle.ba.specs.Promise.{Refuses, note_text, status_of, WritesPlay, Stops, BreaksOff, play_of, unread, unplayed}
+use Rattle.ba.specs.Replaying.{WritesPlay, StopsReplay, BreaksOff, play_of, unread, unplayed}
 use Rattle.ba.specs.ScriptText.{IsScript, Explains}
 use Rattle.ba.specs.Shown.{shown}
 use Rattle.ba.specs.Taking.{TakesAtMost, most_until}
@@ -33,7 +31,7 @@ whole_play (Some input) (Pair protocol events) before now is whole written =
 -- a play broke off
 pub broken_play : (left rest : Option (List ℕ)) (played : Script) (before now : Option (List ℕ)) (fault : PlayFault)
     → IfSome left (λ text. IsScript text played) → BreaksOff (play_of played) before now fault
-    → IfSome left (λ input. Stops input rest before now (unplayed fault))
+    → IfSome left (λ input. StopsReplay input rest before now (unplayed fault))
 broken_play None rest played before now fault is broken = tt
 broken_play (Some input) rest (Pair protocol events) before now (broke.NoSuchMessage number) is broken =
     record { protocol = protocol; events = events; script = is; stopped = broken.0; written = broken.1; safe = plays_are_safe protocol events }
@@ -45,31 +43,13 @@ broken_play (Some input) rest (Pair protocol events) before now broke.Memory is 
 -- a script wasn't read
 pub unread_script : (left rest w : Option (List ℕ)) (fault : ScriptFault)
     → IfSome left (λ text. Explains text fault) → IfSome left (λ text. TakesAtMost left rest (most_until text fault))
-    → IfSome left (λ input. Stops input rest w w (unread fault))
+    → IfSome left (λ input. StopsReplay input rest w w (unread fault))
 unread_script None rest w fault why taken = tt
 unread_script (Some input) rest w (script.BadLine number column) why taken =
     (why.1, record { bad = why.0; kept = keeps_same w; taken = taken })
 unread_script (Some input) rest w script.TooManyLines why taken = record { long = why; kept = keeps_same w; taken = taken }
 unread_script (Some input) rest w script.Read why taken = keeps_same w
 unread_script (Some input) rest w script.Memory why taken = inr (keeps_same w)
-
--- an input that is refused, with the note of its fault
-pub refused_input : (input : List ℕ) (rest before now silent noted : Option (List ℕ)) (why : RunFault) → status_of why ≡ 3
-    → Stops input rest before now why → WritesPart silent noted (note_text why) → Refuses input rest before now silent noted
-refused_input input rest before now silent noted ended.Usage is stops note = absurd stops
-refused_input input rest before now silent noted (ended.BadLine number column) is stops note =
-    (number, inl (stops.1, rw stops.0 at note))
-refused_input input rest before now silent noted (ended.NoSuchMessage number) is stops note = (number, inr (stops, note))
-refused_input input rest before now silent noted ended.Read is stops note = absurd (omega arith)
-refused_input input rest before now silent noted ended.Write is stops note = absurd (omega arith)
-refused_input input rest before now silent noted ended.Memory is stops note = absurd (omega arith)
-refused_input input rest before now silent noted ended.Limit is stops note = absurd (omega arith)
-
--- the same, where the input is told
-pub refused : (left rest before now silent noted : Option (List ℕ)) (why : RunFault) → status_of why ≡ 3
-    → IfSome left (λ input. Stops input rest before now why) → WritesPart silent noted (note_text why) → IfSome left (λ input. Refuses input rest before now silent noted)
-refused None rest before now silent noted why is stops note = tt
-refused (Some input) rest before now silent noted why is stops note = refused_input input rest before now silent noted why is stops note
 
 -- no note is a front of a note
 pub no_note : (w : Option (List ℕ)) (text : List ℕ) → WritesPart w w text

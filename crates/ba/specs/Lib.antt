@@ -1,8 +1,13 @@
 pub mod AtHand
+pub mod Checking
 pub mod Command
+pub mod Journaling
 pub mod Lines
+pub mod Notes
 pub mod Output
 pub mod Promise
+pub mod Replaying
 pub mod ScriptText
 pub mod Shown
 pub mod Taking
+pub mod Whole

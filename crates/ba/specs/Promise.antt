@@ -1,138 +1,59 @@
--- What `run` promises of a replay, by its answer.
-use Rattle.std.specs.Prelude.{◌≡◌, ℕ, ◌+◌, ◌-◌, ◌⊎◌, IsTrue, List, [], ◌∷◌, ◌++◌, take, nat_eq, codes, Option, None, Some}
-use Rattle.std.specs.Fmt.{decimal}
-use Rattle.std.specs.List.{list_any}
-use Rattle.std.specs.Io.KnownBytes.{Appends, Keeps}
-use Rattle.ba_core.specs.declared.protocols.Protocol.{Protocol}
-use Rattle.ba_world.specs.PairState.{start}
-use Rattle.ba_world.specs.PairPlay.{Numbered, Effect, Play, play, IsSafePlay}
-use Rattle.ba.specs.declared.play.PlayFault.{PlayFault}
-use Rattle.ba.specs.declared.play.PlayFault.TheVariants as played
-use Rattle.ba.specs.declared.run.RunFault.{RunFault}
-use Rattle.ba.specs.declared.run.RunFault.TheVariants as fault
-use Rattle.ba.specs.declared.script.Script.{Script}
-use Rattle.ba.specs.declared.script.Script.TheVariants.{Pair}
-use Rattle.ba.specs.declared.script.ScriptFault.{ScriptFault}
-use Rattle.ba.specs.declared.script.ScriptFault.TheVariants as script
+-- What `run` promises for each status, by the command that the words ask for.
+use Rattle.std.specs.Prelude.{ℕ, ◌+◌, ◌⊎◌, List, Option}
+use Rattle.std.specs.Io.KnownBytes.{Keeps}
+use Rattle.ba_xml_reader.specs.declared.faults.Reason.{Reason}
+use Rattle.ba.specs.declared.command.Command.{Command}
+use Rattle.ba.specs.declared.command.Command.TheVariants.{Replay, Check, Journal}
+use Rattle.ba.specs.declared.notes.RunFault.{RunFault}
+use Rattle.ba.specs.declared.notes.RunFault.TheVariants as fault
+use Rattle.ba.specs.Checking.{IsRewritten, RefusesText, PassesTextLimit, StopsCheck, most_text}
+use Rattle.ba.specs.Journaling.{IsListed, RefusesFile, StopsJournal, most_file}
+use Rattle.ba.specs.Notes.{note_text}
 use Rattle.ba.specs.Output.{WritesPart}
-use Rattle.ba.specs.Lines.{lines_of, bytes_of}
-use Rattle.ba.specs.ScriptText.{IsPairScript, IsBadScript, IsLongScript, most_lines}
-use Rattle.ba.specs.Taking.{TakesAtMost, lookahead}
-use Rattle.ba.specs.Shown.{numbered, shown}
+use Rattle.ba.specs.Replaying.{WritesPlay, WritesFront, RefusesScript, RefusesLength, StopsReplay}
+use Rattle.ba.specs.Taking.{most_taken}
+use Rattle.ba.specs.Whole.{WritesOne, WritesFrontOf, IsTooLong}
 
--- the play of a script
-abbrev pub play_of : Script → Play
-play_of (Pair protocol events) = play (start protocol) events
+-- 0: the whole output was written
+abbrev pub Does : Command → List ℕ → Option (List ℕ) → Option (List ℕ) → Type 0
+Does Replay input before now = WritesPlay input before now
+Does Check input before now = WritesOne (IsRewritten input) before now
+Does Journal input before now = WritesOne (IsListed input) before now
 
--- a play that broke off: what was written of it, and why
-abbrev pub BreaksOff : Play → Option (List ℕ) → Option (List ℕ) → PlayFault → Type 0
-BreaksOff p before now (played.NoSuchMessage number) = (p.stopped_at ≡ Some number) × Appends before now (shown p.lines)
-BreaksOff p before now played.Write = WritesPart before now (shown p.lines)
-BreaksOff p before now played.Memory = WritesPart before now (shown p.lines)
+-- 3: the input is refused, and the note, or a front of it, says why and where
+abbrev pub Refuses : Command → List ℕ → Option (List ℕ) → Option (List ℕ) → Option (List ℕ) → Option (List ℕ) → Option (List ℕ) → Type 0
+Refuses Replay input rest before now silent noted = RefusesScript input rest before now silent noted
+Refuses Check input rest before now silent noted =
+    (why : Reason) × (place : ℕ) × RefusesText input why place before now × WritesPart silent noted (note_text (fault.Xml why place))
+Refuses Journal input rest before now silent noted =
+    (place : ℕ) × RefusesFile input place before now × WritesPart silent noted (note_text (fault.NoJournal place))
 
--- what an event's effect shows
-abbrev pub effect_text : ℕ → Option Effect → List ℕ
-effect_text number None = []
-effect_text number (Some effect) = numbered number effect.1
+-- 5: a front of the output was written
+abbrev pub DoesPart : Command → List ℕ → Option (List ℕ) → Option (List ℕ) → Type 0
+DoesPart Replay input before now = WritesFront input before now
+DoesPart Check input before now = WritesFrontOf (IsRewritten input) before now
+DoesPart Journal input before now = WritesFrontOf (IsListed input) before now
 
--- one event broke off a play: what was written since of the text before it and of its own line, and why
-abbrev pub BreaksOffAt : ℕ → Option Effect → List ℕ → Option (List ℕ) → Option (List ℕ) → PlayFault → Type 0
-BreaksOffAt number effect text before now (played.NoSuchMessage at) = (effect ≡ None) × (at ≡ number) × Appends before now text
-BreaksOffAt number effect text before now played.Write = WritesPart before now (text ++ effect_text number effect)
-BreaksOffAt number effect text before now played.Memory = Keeps before now
+-- 6: memory was wanted; a front of a play may have been written
+abbrev pub Starves : Command → List ℕ → Option (List ℕ) → Option (List ℕ) → Type 0
+Starves Replay input before now = WritesFront input before now ⊎ Keeps before now
+Starves Check input before now = Keeps before now
+Starves Journal input before now = Keeps before now
 
--- The input is a script, and its whole play, which is safe, was written.
-pub record WritesPlay (input : List ℕ) (before now : Option (List ℕ)) : Type 0 where
-  pub protocol : Protocol
-  pub events : List Numbered
-  pub script : IsPairScript input protocol events
-  pub whole : (play (start protocol) events).stopped_at ≡ None
-  pub written : Appends before now (shown (play (start protocol) events).lines)
-  pub safe : IsSafePlay (play (start protocol) events)
+-- 7: the input goes past a limit
+abbrev pub PassesLimit : Command → List ℕ → Option (List ℕ) → Option (List ℕ) → Option (List ℕ) → Type 0
+PassesLimit Replay input rest before now = RefusesLength input rest before now
+PassesLimit Check input rest before now = PassesTextLimit input rest before now
+PassesLimit Journal input rest before now = IsTooLong most_file input rest before now
 
--- The input is a script, and its play was written up to the event of this line, which can't be played.
-pub record WritesUpTo (input : List ℕ) (number : ℕ) (before now : Option (List ℕ)) : Type 0 where
-  pub protocol : Protocol
-  pub events : List Numbered
-  pub script : IsPairScript input protocol events
-  pub stopped : (play (start protocol) events).stopped_at ≡ Some number
-  pub written : Appends before now (shown (play (start protocol) events).lines)
-  pub safe : IsSafePlay (play (start protocol) events)
+-- so many bytes are taken at most
+abbrev pub most_taken_by : Command → ℕ
+most_taken_by Replay = most_taken
+most_taken_by Check = most_text + 1
+most_taken_by Journal = most_file + 1
 
--- The input is a script, and a front of its play was written.
-pub record WritesFront (input : List ℕ) (before now : Option (List ℕ)) : Type 0 where
-  pub protocol : Protocol
-  pub events : List Numbered
-  pub script : IsPairScript input protocol events
-  pub written : WritesPart before now (shown (play (start protocol) events).lines)
-  pub safe : IsSafePlay (play (start protocol) events)
-
--- The input is refused at its first bad line, which has this number. Nothing was written, and little was read
--- past the line.
-pub record RefusesLine (input : List ℕ) (number : ℕ) (rest before now : Option (List ℕ)) : Type 0 where
-  pub bad : IsBadScript input number
-  pub kept : Keeps before now
-  pub taken : TakesAtMost (Some input) rest (bytes_of (take (number - 1) (lines_of input)) + lookahead)
-
--- The input has too many lines. Nothing was written, and little was read past the last line that it may have.
-pub record RefusesLength (input : List ℕ) (rest before now : Option (List ℕ)) : Type 0 where
-  pub long : IsLongScript input
-  pub kept : Keeps before now
-  pub taken : TakesAtMost (Some input) rest (bytes_of (take most_lines (lines_of input)) + lookahead)
-
--- why a replay of this input ended early, and what it had written, where this was left to read
-abbrev pub Stops : List ℕ → Option (List ℕ) → Option (List ℕ) → Option (List ℕ) → RunFault → Type 0
-Stops input rest before now fault.Usage = ⊥
-Stops input rest before now (fault.BadLine number column) = (column ≡ 0) × RefusesLine input number rest before now
-Stops input rest before now (fault.NoSuchMessage number) = WritesUpTo input number before now
-Stops input rest before now fault.Read = Keeps before now
-Stops input rest before now fault.Write = WritesFront input before now
-Stops input rest before now fault.Memory = WritesFront input before now ⊎ Keeps before now
-Stops input rest before now fault.Limit = RefusesLength input rest before now
-
--- the note of a run that ended early
-abbrev pub note_text : RunFault → List ℕ
-note_text fault.Usage = codes "usage\n"
-note_text (fault.BadLine number column) = codes "line " ++ (decimal number ++ (codes " column " ++ (decimal column ++ codes "\n")))
-note_text (fault.NoSuchMessage number) = codes "line " ++ (decimal number ++ codes " no such message\n")
-note_text fault.Read = codes "read\n"
-note_text fault.Write = codes "write\n"
-note_text fault.Memory = codes "memory\n"
-note_text fault.Limit = codes "limit\n"
-
--- the input or an event of it is refused, and the note, or a front of it, says at which line
-abbrev pub Refuses : List ℕ → Option (List ℕ) → Option (List ℕ) → Option (List ℕ) → Option (List ℕ) → Option (List ℕ) → Type 0
-Refuses input rest before now silent noted =
-    (number : ℕ) × ((RefusesLine input number rest before now × WritesPart silent noted (note_text (fault.BadLine number 0)))
-    ⊎ (WritesUpTo input number before now × WritesPart silent noted (note_text (fault.NoSuchMessage number))))
-
--- the fault of a run whose script wasn't read
-abbrev pub unread : ScriptFault → RunFault
-unread script.Memory = fault.Memory
-unread script.Read = fault.Read
-unread (script.BadLine number column) = fault.BadLine number column
-unread script.TooManyLines = fault.Limit
-
--- the fault of a run whose play broke off
-abbrev pub unplayed : PlayFault → RunFault
-unplayed played.Memory = fault.Memory
-unplayed played.Write = fault.Write
-unplayed (played.NoSuchMessage number) = fault.NoSuchMessage number
-
--- the status of a run that ended early
-abbrev pub status_of : RunFault → ℕ
-status_of fault.Usage = 2
-status_of (fault.BadLine number column) = 3
-status_of (fault.NoSuchMessage number) = 3
-status_of fault.Read = 4
-status_of fault.Write = 5
-status_of fault.Memory = 6
-status_of fault.Limit = 7
-
--- the note of an end with this status, or a front of it, was left
-abbrev pub NotesEnd : ℕ → Option (List ℕ) → Option (List ℕ) → Type 0
-NotesEnd status silent noted = (why : RunFault) × (status_of why ≡ status) × WritesPart silent noted (note_text why)
-
--- the statuses of a run
-abbrev pub IsStatus : ℕ → Type 0
-IsStatus status = IsTrue (list_any (nat_eq status) (0 ∷ 2 ∷ 3 ∷ 4 ∷ 5 ∷ 6 ∷ 7 ∷ []))
+-- why a command ended early on this input, and what it had written, where this was left to read
+abbrev pub Stops : Command → List ℕ → Option (List ℕ) → Option (List ℕ) → Option (List ℕ) → RunFault → Type 0
+Stops Replay input rest before now why = StopsReplay input rest before now why
+Stops Check input rest before now why = StopsCheck input rest before now why
+Stops Journal input rest before now why = StopsJournal input rest before now why

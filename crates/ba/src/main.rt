@@ -1,10 +1,21 @@
-//! The program `ba`: it replays written schedules of a business activity. `main` hands in the real standard
-//! streams and the words of the command line, and nothing else.
+//! The program `ba`: it replays written schedules of a business activity, checks texts of XML, and lists
+//! journals. `main` hands in the real standard streams and the words of the command line, and nothing else.
 #![tactic(auto)]
 
+mod check;
+#[cfg(test)]
+mod check_tests;
 mod command;
+mod input;
+mod journal;
+#[cfg(test)]
+mod journal_tests;
+mod notes;
 mod output;
+#[cfg(test)]
+mod piece_tests;
 mod play;
+mod replay;
 mod run;
 mod script;
 mod show;
@@ -12,7 +23,8 @@ mod show;
 mod tests;
 
 use ba_ports::{ReadSource, WriteSink};
-use run::{RunFault, refuse, run};
+use notes::{RunFault, refuse};
+use run::run;
 use std::env;
 use std::io::ErrorKind;
 use std::process::ExitCode;

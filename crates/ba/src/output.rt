@@ -1,9 +1,10 @@
 //! Output that goes to a sink whole.
-ghost use Rattle.std.specs.Prelude.{◌≡◌, ◌≤◌, ◌⊎◌, IsTrue, OnOk, OnErr};
+ghost use Rattle.std.specs.Prelude.{◌≡◌, ◌≤◌, ◌⊎◌, IsTrue, IfErr, OnOk, OnErr};
 ghost use Rattle.std.specs.Io.KnownBytes.{Appends};
 ghost use Rattle.ba_ports.specs.Causes.{Rose};
 ghost use Rattle.ba.specs.Output.{WritesPart};
 
+use crate::notes::RunFault;
 use ba_ports::Sink;
 use thiserror::Error;
 
@@ -28,4 +29,17 @@ pub fn write_all<K: Sink>(sink: &mut K, bytes: &[u8]) -> Result<(), NotWritten>
         }
     }
     Ok(())
+}
+
+/// Writes all bytes as a command's output. After `Write`, its one fault, a front of them was written.
+pub fn print<K: Sink>(bytes: &[u8], sink: &mut K) -> Result<(), RunFault>
+    ensures all { OnOk result (Appends (K.written sink.old) (K.written sink.new) bytes.now) }
+    ensures only { IfErr result (λ fault. fault ≡ RunFault.Write) }
+    ensures part { OnErr result (WritesPart (K.written sink.old) (K.written sink.new) bytes.now) }
+    ensures cause { OnErr result (Rose (K.faults sink.old) (K.faults sink.new) ⊎ IsTrue (K.took_nothing sink.new)) }
+{
+    match write_all(sink, bytes) {
+        Ok(()) => Ok(()),
+        Err(NotWritten) => Err(RunFault::Write),
+    }
 }

@@ -6,7 +6,7 @@ ghost use Rattle.ba_world.specs.declared.lines.Line.{Line};
 ghost use Rattle.ba_world.specs.PairState.{start};
 ghost use Rattle.ba_world.specs.PairPlay.{happens, play};
 ghost use Rattle.ba.specs.Output.{Writes, WritesPart};
-ghost use Rattle.ba.specs.Promise.{BreaksOff, BreaksOffAt};
+ghost use Rattle.ba.specs.Replaying.{BreaksOff, BreaksOffAt};
 ghost use Rattle.ba.specs.Shown.{numbered, shown};
 
 use crate::output::{NotWritten, write_all};

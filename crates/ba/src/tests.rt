@@ -10,34 +10,39 @@ use std::test::Fail;
 
 // What a run reads, and where its source and its sink fail.
 #[derive(Clone, Copy)]
-struct Given<'a> {
-    words: &'a [&'a str],
-    script: &'a [u8],
-    failing_read: u64,
-    failing_write: u64,
-    room: u64,
+pub struct Given<'a> {
+    pub words: &'a [&'a str],
+    pub input: &'a [u8],
+    pub failing_read: u64,
+    pub failing_write: u64,
+    pub room: u64,
 }
 
 // What a run answers, writes and notes.
 #[derive(Drop)]
-struct Ran {
-    status: u8,
-    output: Vec<u8>,
-    note: Vec<u8>,
+pub struct Ran {
+    pub status: u8,
+    pub output: Vec<u8>,
+    pub note: Vec<u8>,
 }
 
-// The replay of a script by objects that don't fail.
-fn replay_of<'a>(script: &'a [u8]) -> Given<'a> {
+// These words and this input, with objects that don't fail.
+pub fn ask_with<'a>(words: &'a [&'a str], input: &'a [u8]) -> Given<'a> {
     Given {
-        words: &["replay"],
-        script,
+        words,
+        input,
         failing_read: 0,
         failing_write: 0,
         room: 1_000_000,
     }
 }
 
-fn words_of(alloc: Global, words: &[&str]) -> Result<Vec<String>, AllocError> {
+// The replay of a script by objects that don't fail.
+fn replay_of<'a>(script: &'a [u8]) -> Given<'a> {
+    ask_with(&["replay"], script)
+}
+
+pub fn words_of(alloc: Global, words: &[&str]) -> Result<Vec<String>, AllocError> {
     let mut all = Vec::new(alloc);
     for word in words {
         all.push(String::from_str(alloc, word)?)?;
@@ -49,10 +54,15 @@ fn only(alloc: Global, call: u64) -> Result<List<u64>, AllocError> {
     Ok(List::of(vec![in alloc; call]?))
 }
 
+// The byte so many times.
+pub fn repeated(alloc: Global, byte: u8, count: usize) -> Result<Octets, AllocError> {
+    Ok(Octets::of(vec![in alloc; byte; count]?))
+}
+
 // Runs in reads of seven bytes.
-fn play(alloc: Global, given: &Given<'_>) -> Result<Ran, AllocError> {
+pub fn play(alloc: Global, given: &Given<'_>) -> Result<Ran, AllocError> {
     let words = words_of(alloc, given.words)?;
-    let bytes = Octets::of(Vec::from_slice(alloc, given.script)?);
+    let bytes = Octets::of(Vec::from_slice(alloc, given.input)?);
     let mut source = Text::of(bytes, 7, only(alloc, given.failing_read)?);
     let mut sink = Out::of(alloc, given.room, only(alloc, given.failing_write)?);
     let mut notes = Out::of(alloc, 100, List::new(alloc));
@@ -64,7 +74,7 @@ fn play(alloc: Global, given: &Given<'_>) -> Result<Ran, AllocError> {
     })
 }
 
-fn expect(
+pub fn expect(
     rt: &impl Abort,
     alloc: Global,
     given: &Given<'_>,
@@ -227,22 +237,24 @@ fn bad_lines(rt: HostRuntime) -> Result<(), Fail> {
 
 #[test]
 fn too_many_lines(rt: HostRuntime) -> Result<(), Fail> {
-    let script = vec![in rt.alloc(); b'\n'; 100_001]?;
-    expect(&rt, rt.alloc(), &replay_of(&script[..100_000]), 0, b"", b"")?;
-    expect(
-        &rt,
-        rt.alloc(),
-        &replay_of(script.as_slice()),
-        7,
-        b"",
-        b"limit\n",
-    )?;
+    let alloc = rt.alloc();
+    let most = repeated(alloc, b'\n', 100_000)?;
+    expect(&rt, alloc, &replay_of(most.as_slice()), 0, b"", b"")?;
+    let more = repeated(alloc, b'\n', 100_001)?;
+    let more = replay_of(more.as_slice());
+    expect(&rt, alloc, &more, 7, b"", b"limit\n")?;
     Ok(())
 }
 
 #[test]
 fn other_words(rt: HostRuntime) -> Result<(), Fail> {
-    let cases: [&[&str]; 4] = [&[], &["Replay"], &["replay", "replay"], &["check"]];
+    let cases: [&[&str]; 5] = [
+        &[],
+        &["Replay"],
+        &["replay", "replay"],
+        &["check", "replay"],
+        &["checks"],
+    ];
     for words in cases {
         let other = Given {
             words,

@@ -1,5 +1,5 @@
 use Rattle.ba.proofs.Promised.{whole_play, broken_play, unread_script}
-use Rattle.ba.proofs.run.replay.Goals as goal
+use Rattle.ba.proofs.replay.replay.Goals as goal
 
 pub returns-in-Ok-play_script-clause-done : goal.returns-in-Ok-play_script-clause-done
 returns-in-Ok-play_script-clause-done g c =
