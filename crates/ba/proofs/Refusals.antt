@@ -1,5 +1,5 @@
 -- An input that is refused: what the reader of texts says of it, and what `run` says by the command.
-use Rattle.std.proofs.Common.{◌≡◌, ◌≢◌, ℕ, ◌+◌, ◌⊎◌, inl, inr, nat_eq, true, false, Option, Some, None, Result, Err, List, take, refl, sym, ap, subst, ◌∙◌, true≢false}
+use Rattle.std.proofs.Common.{◌≡◌, ◌≢◌, ℕ, ◌+◌, ◌⊎◌, inl, inr, nat_eq, false, Option, Some, None, Result, Err, List, take, refl, sym, ap, subst, ◌∙◌, true≢false}
 use Rattle.std.specs.Prelude.{IfSome}
 use Rattle.ba_tree.specs.declared.trees.Tree.{Tree}
 use Rattle.ba_xml_reader.specs.Answer.{IsAnswer}

@@ -1,5 +1,5 @@
 -- The calls by which a journal is made in a file or its end is repaired, and what a crash during a change may leave.
-use Rattle.std.specs.Prelude.{◌≡◌, ◌⊎◌, ℕ, ◌+◌, List, [], ◌∷◌, ◌++◌, drop}
+use Rattle.std.specs.Prelude.{◌⊎◌, ℕ, ◌+◌, List, [], ◌∷◌, ◌++◌, drop}
 use Rattle.ba_ports.specs.declared.requests.Request.{Request}
 use Rattle.ba_ports.specs.declared.requests.Request.TheVariants.{WriteAt, Cut, Sync}
 use Rattle.ba_journal.specs.Frames.{header}

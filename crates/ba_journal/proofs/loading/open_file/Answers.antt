@@ -1,12 +1,11 @@
-use Rattle.std.proofs.Common.{◌≡◌, inl, inr, Bool, true, false, List, [], ◌∷◌, ◌++◌, ℕ, Err, IsTrue, is_err, refl, sym, ◌∙◌, ap, subst, rules}
-use Rattle.ba_ports.specs.Disk.{Only, counted}
+use Rattle.std.proofs.Common.{◌≡◌, inl, inr, true, false, List, [], ◌∷◌, ◌++◌, ℕ, Err, IsTrue, is_err, sym, ◌∙◌, ap, subst, rules}
+use Rattle.ba_ports.specs.Disk.{Only}
 use Rattle.ba_ports.specs.declared.requests.Request.TheVariants.{Sync}
 use Rattle.ba_ports.proofs.Moments.{started, goes_on}
 use Rattle.ba_journal.specs.Frames.{StandsFor, IsNoJournal}
 use Rattle.ba_journal.specs.Loads.{MayStandSince, StandAlike}
 use Rattle.ba_journal.specs.Readings.{ReadsAs}
 use Rattle.ba_journal.specs.declared.faults.JournalFault.TheVariants as fault
-use Rattle.ba_journal.specs.declared.readings.Reading.{Reading}
 use Rattle.ba_journal.proofs.Loadings.{read_counted, settled_counted, refused, err_is}
 use Rattle.ba_journal.proofs.Turns.{at_ok, joined}
 use Rattle.ba_journal.proofs.loading.open_file.Goals as goal

@@ -1,6 +1,5 @@
-use Rattle.std.proofs.Common.{◌≡◌, inr, Bool, true, List, ℕ, length, is_err, sym, subst, arith, rules}
+use Rattle.std.proofs.Common.{◌≡◌, inr, Bool, true, is_err, sym, subst, arith, rules}
 use Rattle.ba_ports.specs.Disk.{InTurn}
-use Rattle.ba_journal.specs.Frames.{StandsFor}
 use Rattle.ba_journal.specs.Loads.{StandAlike, settling}
 use Rattle.ba_journal.specs.Readings.{ReadsAs}
 use Rattle.ba_journal.specs.Openings.{making}

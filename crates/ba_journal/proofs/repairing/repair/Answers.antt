@@ -1,4 +1,4 @@
-use Rattle.std.proofs.Common.{◌≡◌, inr, Bool, true, false, [], ◌∷◌, ◌++◌, ◌+◌, List, ℕ, IsTrue, is_err, refl, sym, ◌∙◌, ap, subst, arith, length}
+use Rattle.std.proofs.Common.{inr, [], ◌∷◌, ◌++◌, ◌+◌, List, ℕ, IsTrue, is_err, sym, ◌∙◌, ap, subst, arith, length}
 use Rattle.ba_ports.specs.Disk.{InTurn, Only, written_at}
 use Rattle.ba_ports.specs.declared.requests.Request.TheVariants.{WriteAt, Cut, Sync}
 use Rattle.ba_ports.proofs.Moments.{started}
