@@ -9,7 +9,7 @@ use Rattle.ba_xml_reader.proofs.CompletePieces.{holding}
 use Rattle.ba_xml_reader.proofs.CompleteSteps.{steps}
 use Rattle.ba_xml_reader.specs.Machine.{document, run, answer_by, answer_of, xml_answer}
 use Rattle.ba_xml_reader.specs.GrammarTexts.{lines, IsOfCharacters, IsXmlText}
-use Rattle.ba_xml_reader.specs.declared.machine.Reading.TheVariants as reading
+use Rattle.ba_xml_reader.specs.Readings as reading
 use Rattle.ba_xml_reader.specs.declared.octets.Octet.TheVariants.{Between}
 use Rattle.ba_xml_reader.specs.declared.octets.Decoding.TheVariants.{At}
 use Rattle.ba_xml_reader.specs.declared.states.Mode.TheVariants as mode

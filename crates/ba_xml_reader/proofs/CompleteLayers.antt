@@ -10,8 +10,8 @@ use Rattle.ba_xml_reader.specs.declared.faults.Reason.{Reason}
 use Rattle.ba_xml_reader.specs.declared.faults.Reason.TheVariants.{Size}
 use Rattle.ba_xml_reader.specs.declared.levels.Level.{Level}
 use Rattle.ba_xml_reader.specs.declared.machine.Scan.{Scan}
-use Rattle.ba_xml_reader.specs.declared.machine.Reading.{Reading}
-use Rattle.ba_xml_reader.specs.declared.machine.Reading.TheVariants as reading
+use Rattle.ba_xml_reader.specs.Readings.{Reading}
+use Rattle.ba_xml_reader.specs.Readings as reading
 use Rattle.ba_xml_reader.specs.declared.octets.Octet.{Octet}
 use Rattle.ba_xml_reader.specs.declared.octets.Decoding.{Decoding}
 use Rattle.ba_xml_reader.specs.declared.octets.Decoding.TheVariants as decoding

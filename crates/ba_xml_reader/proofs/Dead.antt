@@ -18,10 +18,10 @@ use Rattle.ba_xml_reader.specs.declared.faults.Reason.TheVariants as reason
 use Rattle.ba_xml_reader.specs.declared.faults.XmlFault.{XmlFault}
 use Rattle.ba_xml_reader.specs.declared.faults.XmlFault.TheVariants as fault
 use Rattle.ba_xml_reader.specs.declared.machine.Scan.{Scan}
-use Rattle.ba_xml_reader.specs.declared.machine.Turn.{Turn}
-use Rattle.ba_xml_reader.specs.declared.machine.Turn.TheVariants as turn
-use Rattle.ba_xml_reader.specs.declared.machine.Reading.{Reading}
-use Rattle.ba_xml_reader.specs.declared.machine.Reading.TheVariants as reading
+use Rattle.ba_xml_reader.specs.Turns.{Turn}
+use Rattle.ba_xml_reader.specs.Turns as turn
+use Rattle.ba_xml_reader.specs.Readings.{Reading}
+use Rattle.ba_xml_reader.specs.Readings as reading
 use Rattle.ba_xml_reader.specs.declared.octets.Octet.{Octet}
 use Rattle.ba_xml_reader.specs.declared.octets.Octet.TheVariants.{Between}
 use Rattle.ba_xml_reader.specs.declared.octets.Decoding.{Decoding}

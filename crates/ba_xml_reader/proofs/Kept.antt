@@ -8,10 +8,9 @@ use Rattle.ba_xml_reader.specs.declared.faults.Reason.TheVariants.{Size, Truncat
 use Rattle.ba_xml_reader.specs.declared.faults.XmlFault.{XmlFault}
 use Rattle.ba_xml_reader.specs.declared.faults.XmlFault.TheVariants as fault
 use Rattle.ba_xml_reader.specs.declared.machine.Scan.{Scan}
-use Rattle.ba_xml_reader.specs.declared.machine.Turn.{Turn}
-use Rattle.ba_xml_reader.specs.declared.machine.Turn.TheVariants as turn
-use Rattle.ba_xml_reader.specs.declared.machine.Reading.{Reading}
-use Rattle.ba_xml_reader.specs.declared.machine.Reading.TheVariants.{Refused, Going}
+use Rattle.ba_xml_reader.specs.Turns.{Turn}
+use Rattle.ba_xml_reader.specs.Turns as turn
+use Rattle.ba_xml_reader.specs.Readings.{Reading, Refused, Going}
 use Rattle.ba_xml_reader.proofs.Runs.{run_none, run_more, run_refused}
 
 -- a reading after so many bytes

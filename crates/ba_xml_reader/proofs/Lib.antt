@@ -17,6 +17,7 @@ pub mod Dead
 pub mod Kept
 pub mod Nearest
 pub mod Openings
+pub mod PutOn
 pub mod Runs
 pub mod Sound
 pub mod SoundAnswer

@@ -1,15 +1,14 @@
 -- Runs of the machine over one byte, over pieces, and after a refusal.
-use Rattle.std.proofs.Common.{◌≡◌, ℕ, suc, ◌+◌, ◌<◌, ◌≤◌, List, [], ◌∷◌, ◌++◌, length, drop, get_or, Result, Ok, Err, refl, ap, sym, ◌∙◌, drop-cons, add-one}
-use Rattle.std.proofs.lemmas.List.{drop_all}
+use Rattle.std.proofs.Common.{◌≡◌, ℕ, ◌+◌, ◌-◌, ◌≤◌, arith, List, [], ◌∷◌, ◌++◌, length, take, drop, Result, Ok, Err, refl, ap, sym, ◌∙◌}
+use Rattle.std.proofs.lemmas.List.{drop_all, drop-drop, length-drop, take_all, take-append-drop}
 use Rattle.ba_tree.specs.declared.trees.Tree.{Tree}
 use Rattle.ba_xml_reader.specs.Answer.{IsAnswer}
-use Rattle.ba_xml_reader.specs.Machine.{run, reading_after, counted, turned}
+use Rattle.ba_xml_reader.specs.Machine.{run, reading_after}
 use Rattle.ba_xml_reader.specs.declared.faults.Reason.{Reason}
 use Rattle.ba_xml_reader.specs.declared.faults.XmlFault.{XmlFault}
 use Rattle.ba_xml_reader.specs.declared.faults.XmlFault.TheVariants as fault
 use Rattle.ba_xml_reader.specs.declared.machine.Scan.{Scan}
-use Rattle.ba_xml_reader.specs.declared.machine.Reading.{Reading}
-use Rattle.ba_xml_reader.specs.declared.machine.Reading.TheVariants.{Refused, Going}
+use Rattle.ba_xml_reader.specs.Readings.{Reading, Refused, Going}
 
 pub run_none : (r : Reading) → run r [] ≡ r
 unfolding run
@@ -33,28 +32,33 @@ run_append r [] more = ap (λ x. run x more) (sym (run_none r))
 run_append r (b ∷ front) more =
     run_more r b (front ++ more) ∙ run_append (reading_after r b) front more ∙ ap (λ x. run x more) (sym (run_more r b front))
 
--- a byte at the place where the reading stands
-pub one_byte : (scan : Scan) (taken : ℕ) (bs : List ℕ) (i : ℕ) → i < length bs
-    → run (Going scan taken) (drop i bs) ≡ run (counted taken (turned scan (get_or bs i 0))) (drop (i + 1) bs)
-unfolding reading_after
-one_byte scan taken bs i h =
-    ap (λ ds. run (Going scan taken) ds) (drop-cons bs i 0 h)
-    ∙ run_more (Going scan taken) (get_or bs i 0) (drop (suc i) bs)
-    ∙ ap (λ k. run (counted taken (turned scan (get_or bs i 0))) (drop k bs)) (sym (add-one i))
+from_there : (at : ℕ) (bs : List ℕ) → take (length bs - at) (drop at bs) ≡ drop at bs
+from_there at bs = take_all (length bs - at) (drop at bs) within
+  where
+    within : length (drop at bs) ≤ length bs - at
+    within = omega (arith, length-drop at bs)
 
--- the loop's step
-pub goes_on : (scan next : Scan) (taken more : ℕ) (r : Reading) (bs : List ℕ) (i : ℕ) → i < length bs
-    → r ≡ counted taken (turned scan (get_or bs i 0)) → r ≡ Going next more
-    → run (Going next more) (drop (i + 1) bs) ≡ run (Going scan taken) (drop i bs)
-goes_on scan next taken more r bs i h e is =
-    ap (λ x. run x (drop (i + 1) bs)) (sym is ∙ e) ∙ sym (one_byte scan taken bs i h)
+-- so many bytes, and the others
+in_parts : (scan : Scan) (taken at count : ℕ) (r : Reading) (bs : List ℕ) → run (Going scan taken) (take count (take (length bs - at) (drop at bs))) ≡ r
+    → run (Going scan taken) (drop at bs) ≡ run r (drop (at + count) bs)
+in_parts scan taken at count r bs e =
+    ap (λ ds. run (Going scan taken) ds) (sym (take-append-drop count (drop at bs)))
+    ∙ run_append (Going scan taken) (take count (drop at bs)) (drop count (drop at bs))
+    ∙ ap (λ ds. run (run (Going scan taken) (take count ds)) (drop count (drop at bs))) (sym (from_there at bs))
+    ∙ ap (λ x. run x (drop count (drop at bs))) e
+    ∙ ap (λ ds. run r ds) (drop-drop count at bs)
+
+-- the loop's step over so many bytes
+pub goes_on : (scan next : Scan) (taken more at count : ℕ) (r : Reading) (bs : List ℕ) → run (Going scan taken) (take count (take (length bs - at) (drop at bs))) ≡ r → r ≡ Going next more
+    → run (Going next more) (drop (at + count) bs) ≡ run (Going scan taken) (drop at bs)
+goes_on scan next taken more at count r bs e is =
+    ap (λ x. run x (drop (at + count) bs)) (sym is) ∙ sym (in_parts scan taken at count r bs e)
 
 -- its end at a refusal
-pub stops : (scan : Scan) (taken : ℕ) (reason : Reason) (place : ℕ) (r : Reading) (bs : List ℕ) (i : ℕ) → i < length bs
-    → r ≡ counted taken (turned scan (get_or bs i 0)) → r ≡ Refused reason place
-    → run (Going scan taken) (drop i bs) ≡ Refused reason place
-stops scan taken reason place r bs i h e is =
-    one_byte scan taken bs i h ∙ ap (λ x. run x (drop (i + 1) bs)) (sym e ∙ is) ∙ run_refused reason place (drop (i + 1) bs)
+pub stops : (scan : Scan) (taken at count : ℕ) (reason : Reason) (place : ℕ) (r : Reading) (bs : List ℕ) → run (Going scan taken) (take count (take (length bs - at) (drop at bs))) ≡ r
+    → r ≡ Refused reason place → run (Going scan taken) (drop at bs) ≡ Refused reason place
+stops scan taken at count reason place r bs e is =
+    in_parts scan taken at count r bs e ∙ ap (λ x. run x (drop (at + count) bs)) is ∙ run_refused reason place (drop (at + count) bs)
 
 -- its end with the bytes
 pub ends : (scan : Scan) (taken : ℕ) (bs : List ℕ) (i : ℕ) → length bs ≤ i → run (Going scan taken) (drop i bs) ≡ Going scan taken

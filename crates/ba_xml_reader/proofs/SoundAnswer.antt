@@ -6,8 +6,8 @@ use Rattle.ba_xml_reader.proofs.SoundBack.{back}
 use Rattle.ba_xml_reader.proofs.CompleteCharacters.{octets}
 use Rattle.ba_xml_reader.specs.Machine.{start, run, ended_at, finished, answer_by, answer_of, xml_answer}
 use Rattle.ba_xml_reader.specs.GrammarTexts.{lines}
-use Rattle.ba_xml_reader.specs.declared.machine.Reading.{Reading}
-use Rattle.ba_xml_reader.specs.declared.machine.Reading.TheVariants as reading
+use Rattle.ba_xml_reader.specs.Readings.{Reading}
+use Rattle.ba_xml_reader.specs.Readings as reading
 use Rattle.ba_xml_reader.specs.declared.octets.Octet.{Octet}
 use Rattle.ba_xml_reader.specs.declared.octets.Octet.TheVariants.{Between}
 use Rattle.ba_xml_reader.specs.declared.octets.Decoding.TheVariants as decoding

@@ -11,8 +11,11 @@ pub mod Names
 pub mod Namespaces
 pub mod Octets
 pub mod Places
+pub mod Readings
 pub mod References
 pub mod Rests
-pub mod Stacks
+pub mod Spans
+pub mod States
 pub mod Tags
+pub mod Turns
 pub mod Words

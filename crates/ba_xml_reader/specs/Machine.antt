@@ -14,11 +14,12 @@ use Rattle.ba_xml_reader.specs.declared.faults.Reason.TheVariants as reason
 use Rattle.ba_xml_reader.specs.declared.faults.XmlFault.{XmlFault}
 use Rattle.ba_xml_reader.specs.declared.faults.XmlFault.TheVariants as fault
 use Rattle.ba_xml_reader.specs.declared.levels.Level.{Level}
+use Rattle.ba_xml_reader.specs.declared.machine.Refusal.{Refusal}
 use Rattle.ba_xml_reader.specs.declared.machine.Scan.{Scan}
-use Rattle.ba_xml_reader.specs.declared.machine.Turn.{Turn}
-use Rattle.ba_xml_reader.specs.declared.machine.Turn.TheVariants as turn
-use Rattle.ba_xml_reader.specs.declared.machine.Reading.{Reading}
-use Rattle.ba_xml_reader.specs.declared.machine.Reading.TheVariants as reading
+use Rattle.ba_xml_reader.specs.Turns.{Turn}
+use Rattle.ba_xml_reader.specs.Turns as turn
+use Rattle.ba_xml_reader.specs.Readings.{Reading}
+use Rattle.ba_xml_reader.specs.Readings as reading
 use Rattle.ba_xml_reader.specs.declared.octets.Octet.{Octet}
 use Rattle.ba_xml_reader.specs.declared.octets.Octet.TheVariants.{Between}
 use Rattle.ba_xml_reader.specs.declared.octets.Decoding.{Decoding}
@@ -85,6 +86,16 @@ abbrev pub turned_by : State → Octet → ℕ → Turn
 turned_by (Refused r) octet b = turn.Refused r
 turned_by (At outer here m) octet b = turn.On (record { state = At outer here m; octet = octet; returned = b == 13 })
 
+-- why the state goes on to no text, if it does not
+abbrev pub refusal_in : State → Option Reason
+refusal_in (Refused r) = Some r
+refusal_in (At outer here m) = None
+
+-- a turn: the scan behind the byte, or why no text goes on so
+abbrev pub turned_as : Scan → Option Reason → Turn
+turned_as scan None = turn.On scan
+turned_as scan (Some r) = turn.Refused r
+
 abbrev pub turned_from : Scan → ℕ → Decoding → Turn
 turned_from scan b (decoding.Broken r) = turn.Refused r
 turned_from scan b (decoding.At octet) = turned_by (unless_returned scan.state scan.returned b) octet b
@@ -103,6 +114,11 @@ reason_at taken r = cond (nat_lt taken 262144) r (reason_past r)
 abbrev pub counted : ℕ → Turn → Reading
 counted taken (turn.Refused r) = reading.Refused (reason_at taken r) taken
 counted taken (turn.On scan) = cond (nat_lt taken 262144) (reading.Going scan (taken + 1)) (reading.Refused reason.Size taken)
+
+-- a reading behind so many bytes, or its refusal
+abbrev pub reading_at : Scan → ℕ → Option Refusal → Reading
+reading_at scan taken None = reading.Going scan taken
+reading_at scan taken (Some refusal) = reading.Refused refusal.reason refusal.place
 
 unfoldable pub reading_after : Reading → ℕ → Reading
 reading_after (reading.Refused r place) b = reading.Refused r place

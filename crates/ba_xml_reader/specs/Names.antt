@@ -57,3 +57,7 @@ same_name name other = bytes_eq name.prefix other.prefix && bytes_eq name.local 
 -- whether one of the attributes has the name
 abbrev pub is_written : RawName → List RawAttribute → Bool
 is_written name attributes = list_any (λ a. same_name name a.name) attributes
+
+-- a name with more letters
+abbrev pub with_letters : RawName → List ℕ → RawName
+with_letters name bytes = record { prefix = name.prefix; local = name.local ++ bytes }

@@ -1,12 +1,13 @@
 //! The elements that are open, from the document to the innermost.
-ghost use Rattle.std.specs.Prelude.{◌≡◌, ◌++◌, ◌∷◌, [], IfOk};
-ghost use Rattle.ba_xml_reader.specs.Levels.{put, put_all, settled, with_child, tree_of, place_of, child_level, empty_tree, text_item};
+ghost use Rattle.std.specs.Prelude.{◌≡◌, IfOk, OnOk};
+ghost use Rattle.ba_xml_reader.specs.Levels.{put, put_all, settled, with_child, tree_of, place_of, child_level, empty_tree};
 
-use crate::names::{with_byte, with_bytes};
+use crate::held::Held;
 use crate::stacks::Stack;
 use ba_core::{List, Memory, Octets};
 use ba_tree::{Attribute, Content, Name, Tree};
 use std::alloc::Global;
+use std::mem;
 
 /// What a prefix means; the empty prefix is the default namespace.
 #[derive(Debug, Drop)]
@@ -48,7 +49,7 @@ pub enum Place {
 }
 
 /// Where the next piece stands.
-pub fn place_next(outer: &Stack<Level>, here: &Level) -> Place
+pub fn place_next(outer: &Stack<Held<Level>>, here: &Level) -> Place
     ensures { result ≡ place_of outer.now here.now }
 {
     if outer.len() > 0 {
@@ -60,118 +61,62 @@ pub fn place_next(outer: &Stack<Level>, here: &Level) -> Place
     Place::Behind
 }
 
-impl Level {
-    /// The level with one byte more of text.
-    pub fn put(self, b: u8) -> Result<Level, Memory>
-        ensures { IfOk result (λ level. level ≡ put self b) }
+impl Held<Level> {
+    /// Puts one byte of text.
+    pub fn put(&mut self, b: u8) -> Result<(), Memory>
+        ensures { OnOk result (self.new ≡ put self.old b) }
     {
-        let Level {
-            spelled,
-            name,
-            attributes,
-            declarations,
-            content,
-            text,
-        } = self;
-        let text = with_byte(text, b)?;
-        Ok(Level {
-            spelled,
-            name,
-            attributes,
-            declarations,
-            content,
-            text,
-        })
+        self.inside.text.push(b).map_err(|_| Memory)
     }
 
-    /// The level with more text.
-    pub fn put_all(self, bytes: &[u8]) -> Result<Level, Memory>
-        ensures { IfOk result (λ level. level ≡ put_all self bytes.now) }
+    /// Puts more text.
+    pub fn put_all(&mut self, bytes: &[u8]) -> Result<(), Memory>
+        ensures { OnOk result (self.new ≡ put_all self.old bytes.now) }
     {
-        let Level {
-            spelled,
-            name,
-            attributes,
-            declarations,
-            content,
-            text,
-        } = self;
-        let text = with_bytes(text, bytes)?;
-        Ok(Level {
-            spelled,
-            name,
-            attributes,
-            declarations,
-            content,
-            text,
-        })
+        self.inside.text.append(bytes)
     }
 
-    /// The level with its text among its content, if there is any.
-    pub fn settle(self, alloc: Global) -> Result<Level, Memory>
-        ensures { IfOk result (λ level. level ≡ settled self) }
+    /// Puts the text among the content, if there is any: empty texts are left out.
+    pub fn settle(&mut self, alloc: Global) -> Result<(), Memory>
+        ensures { OnOk result (self.new ≡ settled self.old) }
     {
-        let Level {
-            spelled,
-            name,
-            attributes,
-            declarations,
-            content,
-            text,
-        } = self;
-        let content = with_text(content, text)?;
-        let text = List::new(alloc);
-        Ok(Level {
-            spelled,
-            name,
-            attributes,
-            declarations,
-            content,
-            text,
-        })
+        if self.inside.text.is_empty() {
+            return Ok(());
+        }
+        let text = mem::replace(&mut self.inside.text, List::new(alloc));
+        self.inside
+            .content
+            .push(Content::Text(text))
+            .map_err(|_| Memory)
     }
 
-    /// The level with one child more.
-    pub fn add(self, child: Tree) -> Result<Level, Memory>
-        ensures { IfOk result (λ level. level ≡ with_child self child) }
+    /// Puts one child more behind the content.
+    pub fn add(&mut self, child: Tree) -> Result<(), Memory>
+        ensures { OnOk result (self.new ≡ with_child self.old child) }
     {
-        let Level {
-            spelled,
-            name,
-            attributes,
-            declarations,
-            content,
-            text,
-        } = self;
-        let content = with_content(content, Content::Child(child))?;
-        Ok(Level {
-            spelled,
-            name,
-            attributes,
-            declarations,
-            content,
-            text,
-        })
+        self.inside
+            .content
+            .push(Content::Child(child))
+            .map_err(|_| Memory)
     }
 
     /// The element that ends here.
-    pub fn close(self) -> Result<Tree, Memory>
+    pub fn close(mut self, alloc: Global) -> Result<Tree, Memory>
         ensures { IfOk result (λ tree. tree ≡ tree_of self) }
     {
+        self.settle(alloc)?;
         let Level {
-            spelled,
+            spelled: _,
             name,
             attributes,
-            declarations,
+            declarations: _,
             content,
-            text,
-        } = self;
-        let _ = spelled;
-        let _ = declarations;
+            text: _,
+        } = self.into_inner();
         Ok(Tree {
             name,
             attributes,
-            content: with_text(content, text)?,
+            content,
         })
     }
 }
@@ -203,32 +148,12 @@ impl Opening {
         let Opening {
             name,
             attributes,
-            declarations,
+            declarations: _,
         } = self;
-        let _ = declarations;
         Tree {
             name,
             attributes,
             content: List::new(alloc),
         }
     }
-}
-
-fn with_content(mut content: List<Content>, item: Content) -> Result<List<Content>, Memory>
-    ensures { IfOk result (λ more. more ≡ content ++ item ∷ []) }
-{
-    match content.push(item) {
-        Ok(()) => Ok(content),
-        Err(_) => Err(Memory),
-    }
-}
-
-// Empty texts are left out.
-fn with_text(content: List<Content>, text: Octets) -> Result<List<Content>, Memory>
-    ensures { IfOk result (λ more. more ≡ content ++ text_item text) }
-{
-    if text.is_empty() {
-        return Ok(content);
-    }
-    with_content(content, Content::Text(text))
 }

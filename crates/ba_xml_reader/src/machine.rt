@@ -1,7 +1,7 @@
 //! One byte of a text after another.
-ghost use Rattle.std.specs.Prelude.{◌≡◌, [], IfOk};
-ghost use Rattle.ba_xml_reader.specs.Classes.{class_of};
-ghost use Rattle.ba_xml_reader.specs.Machine.{document, start, act, act_by, state_after, unless_returned, line_end, turned, turned_by, counted, reading_after, ended, reason_at, finished, root_of, child_of};
+ghost use Rattle.std.specs.Prelude.{◌≡◌, ◌+◌, Some, IfOk, OnOk};
+ghost use Rattle.ba_xml_reader.specs.Machine.{reading_at, start, act_by, state_after, unless_returned, line_end, turned, turned_as, refusal_in, counted, ended, reason_at, finished, root_of, child_of};
+ghost use Rattle.ba_xml_reader.specs.States.{state_at};
 
 use crate::classes::{Class, classify};
 use crate::content::{
@@ -9,11 +9,12 @@ use crate::content::{
     mark_two, open, reference, section,
 };
 use crate::faults::Reason;
+use crate::held::Held;
 use crate::levels::Level;
 use crate::octets::{Decoding, Octet, decode};
 use crate::spaces::first_declarations;
 use crate::stacks::Stack;
-use crate::states::{Mode, State};
+use crate::states::{Mode, Next, State};
 use crate::tags::{
     attribute_name, end_name, end_space, equals, in_tag, quote, slashed, tag_name, value,
     value_reference,
@@ -21,11 +22,12 @@ use crate::tags::{
 use ba_core::{List, Memory};
 use ba_tree::{Content, Name, Tree};
 use std::alloc::Global;
+use std::mem;
 
 /// A text has this many bytes at most.
 pub const MOST_BYTES: u64 = 262_144;
 
-/// A text as far as it is read.
+/// A text as far as it is read. After `Memory` it says nothing of the text any more.
 pub struct Scan {
     pub state: State,
     pub octet: Octet,
@@ -33,18 +35,14 @@ pub struct Scan {
     pub returned: bool,
 }
 
-/// What one byte more does to a text.
-pub enum Turn {
-    Refused(Reason),
-    On(Scan),
+/// Why and where no text goes on.
+#[derive(Clone, Copy, Debug, PartialEq, Eq)]
+pub struct Refusal {
+    pub reason: Reason,
+    pub place: u64,
 }
 
-/// A reading: refused at a place, or going on after so many bytes.
-pub enum Reading {
-    Refused(Reason, u64),
-    Going(Scan, u64),
-}
-
+// Giving a scan up is one call. Else each place that does would have a proof of its own over all that is read.
 impl Drop for Scan {
     fn drop(self) {
         let Scan {
@@ -62,7 +60,7 @@ fn give_up(_state: State) {}
 pub fn begun(alloc: Global) -> Result<Scan, Memory>
     ensures { IfOk result (λ scan. scan ≡ start) }
 {
-    let here = Level {
+    let document = Level {
         spelled: List::new(alloc),
         name: Name {
             space: List::new(alloc),
@@ -73,6 +71,7 @@ pub fn begun(alloc: Global) -> Result<Scan, Memory>
         content: List::new(alloc),
         text: List::new(alloc),
     };
+    let here = Held::of(alloc, document)?;
     Ok(Scan {
         state: State::At(Stack::new(alloc), here, Mode::Begin),
         octet: Octet::Between,
@@ -81,21 +80,29 @@ pub fn begun(alloc: Global) -> Result<Scan, Memory>
 }
 
 impl Scan {
-    /// What this byte does.
-    pub fn turn(self, alloc: Global, b: u8) -> Result<Turn, Memory>
-        ensures { IfOk result (λ turn. turn ≡ turned self b) }
+    // Takes this byte, and answers why no text goes on so, if none does.
+    fn turn(&mut self, alloc: Global, b: u8) -> Result<Option<Reason>, Memory>
+        ensures { IfOk result (λ refusal. turned_as self.new refusal ≡ turned self.old b) }
     {
-        let Scan {
-            state,
-            octet,
-            returned,
-        } = self;
-        match decode(octet, b) {
-            Decoding::Broken(reason) => {
-                give_up(state);
-                Ok(Turn::Refused(reason))
+        match decode(self.octet, b) {
+            Decoding::Broken(reason) => Ok(Some(reason)),
+            Decoding::At(octet) => {
+                next_state(alloc, &mut self.state, self.returned, b)?;
+                self.octet = octet;
+                self.returned = b == b'\r';
+                Ok(refusal_in(&self.state))
             }
-            Decoding::At(octet) => Ok(turn_of(next_state(alloc, state, returned, b)?, octet, b)),
+        }
+    }
+
+    /// Takes this byte, before which so many were read, and answers why and where no text goes on so, if none does.
+    pub fn step(&mut self, alloc: Global, taken: u64, b: u8) -> Result<Option<Refusal>, Memory>
+        ensures { IfOk result (λ refusal. reading_at self.new (taken + 1) refusal ≡ counted taken (turned self.old b)) }
+    {
+        match self.turn(alloc, b)? {
+            Some(reason) => Ok(refused(at_limit(taken, reason), taken)),
+            None if taken >= MOST_BYTES => Ok(refused(Reason::Size, taken)),
+            None => Ok(None),
         }
     }
 
@@ -115,27 +122,23 @@ impl Scan {
     }
 }
 
-fn turn_of(state: State, octet: Octet, b: u8) -> Turn
-    ensures { result ≡ turned_by state octet b }
+fn refusal_in(state: &State) -> Option<Reason>
+    ensures { result ≡ refusal_in state.now }
 {
     match state {
-        State::Refused(reason) => Turn::Refused(reason),
-        State::At(outer, here, mode) => Turn::On(Scan {
-            state: State::At(outer, here, mode),
-            octet,
-            returned: b == b'\r',
-        }),
+        State::Refused(reason) => Some(*reason),
+        State::At(_, _, _) => None,
     }
 }
 
 // Each end of a line counts as one line feed.
-fn next_state(alloc: Global, state: State, returned: bool, b: u8) -> Result<State, Memory>
-    ensures { IfOk result (λ next. next ≡ unless_returned state returned b) }
+fn next_state(alloc: Global, state: &mut State, returned: bool, b: u8) -> Result<(), Memory>
+    ensures { OnOk result (state.new ≡ unless_returned state.old returned b) }
 {
     if returned && b == b'\n' {
-        return Ok(state);
+        return Ok(());
     }
-    after(alloc, state, end_of_line(b))
+    advance(alloc, state, end_of_line(b))
 }
 
 fn end_of_line(b: u8) -> u8
@@ -144,58 +147,68 @@ fn end_of_line(b: u8) -> u8
     if b == b'\r' { b'\n' } else { b }
 }
 
+// Takes a byte behind the ends of lines.
 #[tactic(auto, unfolding(crate::specs::Machine::state_after))]
-fn after(alloc: Global, state: State, b: u8) -> Result<State, Memory>
-    ensures { IfOk result (λ next. next ≡ state_after state b) }
+fn advance(alloc: Global, state: &mut State, b: u8) -> Result<(), Memory>
+    ensures { OnOk result (state.new ≡ state_after state.old b) }
 {
     match state {
-        State::Refused(reason) => Ok(State::Refused(reason)),
-        State::At(outer, here, mode) => acted(alloc, outer, here, mode, b, classify(b)),
+        State::Refused(_) => Ok(()),
+        State::At(outer, here, mode) => {
+            // It only keeps the place until it is known what the byte leads to.
+            let before = mem::replace(mode, Mode::Begin);
+            match act(alloc, outer, here, before, b, classify(b))? {
+                Next::Refused(reason) => *state = State::Refused(reason),
+                Next::On(next) => *mode = next,
+            }
+            Ok(())
+        }
     }
 }
 
-fn acted(
+// What a byte of this class does behind what of a piece is read.
+fn act(
     alloc: Global,
-    outer: Stack<Level>,
-    here: Level,
+    outer: &mut Stack<Held<Level>>,
+    here: &mut Held<Level>,
     mode: Mode,
     b: u8,
     class: Class,
-) -> Result<State, Memory>
-    ensures { IfOk result (λ next. next ≡ act_by outer here mode b class) }
+) -> Result<Next, Memory>
+    ensures { IfOk result (λ next. state_at outer.new here.new next ≡ act_by outer.old here.old mode b class) }
 {
     match mode {
-        Mode::Begin => Ok(begin(outer, here, b, class)),
-        Mode::MarkOne => Ok(mark_one(outer, here, b)),
-        Mode::MarkTwo => Ok(mark_two(outer, here, b)),
-        Mode::First => Ok(first(outer, here, class)),
+        Mode::Begin => Ok(begin(b, class)),
+        Mode::MarkOne => Ok(mark_one(b)),
+        Mode::MarkTwo => Ok(mark_two(b)),
+        Mode::First => Ok(first(class)),
         Mode::FirstOpen => first_open(alloc, outer, here, b, class),
-        Mode::Declaring(heading) => Ok(declaring(outer, here, heading, b, class)),
+        Mode::Declaring(heading) => Ok(declaring(heading, b, class)),
         Mode::Inside(seen) => inside(outer, here, seen, b, class),
         Mode::Open => open(alloc, outer, here, b, class),
         Mode::Exclaimed => Ok(exclaimed(outer, here, class)),
-        Mode::Hyphened => Ok(hyphened(outer, here, class)),
-        Mode::Comment(seen) => Ok(comment(outer, here, seen, class)),
-        Mode::Bracketed(count) => Ok(bracketed(alloc, outer, here, count, b)),
-        Mode::Section(body, seen) => section(outer, here, body, seen, b, class),
-        Mode::Reference(partial) => reference(outer, here, partial, b),
+        Mode::Hyphened => Ok(hyphened(class)),
+        Mode::Comment(seen) => Ok(comment(seen, class)),
+        Mode::Bracketed(count) => Ok(bracketed(alloc, count, b)),
+        Mode::Section(body, seen) => section(here, body, seen, b, class),
+        Mode::Reference(partial) => reference(here, partial, b),
         Mode::TagName(name) => tag_name(alloc, outer, here, name, b, class),
         Mode::InTag(tag, spaced) => in_tag(alloc, outer, here, tag, spaced, b, class),
-        Mode::AttributeName(tag, name) => attribute_name(alloc, outer, here, tag, name, b, class),
-        Mode::Equals(tag, name) => Ok(equals(outer, here, tag, name, class)),
-        Mode::Quote(tag, name) => Ok(quote(alloc, outer, here, tag, name, b, class)),
-        Mode::Value(tag, attribute, quote) => value(outer, here, tag, attribute, quote, b, class),
-        Mode::ValueReference(tag, attribute, quote, partial) => value_reference(
-            outer, here, tag, attribute, quote, partial, b,
-        ),
-        Mode::Slashed(opening) => slashed(alloc, outer, here, opening, class),
-        Mode::EndName(rest) => Ok(end_name(outer, here, rest, b)),
-        Mode::EndSpace => end_space(outer, here, class),
+        Mode::AttributeName(tag, name) => attribute_name(tag, name, b, class),
+        Mode::Equals(tag, name) => Ok(equals(tag, name, class)),
+        Mode::Quote(tag, name) => quote(alloc, tag, name, b, class),
+        Mode::Value(tag, attribute, quote) => value(tag, attribute, quote, b, class),
+        Mode::ValueReference(tag, attribute, quote, partial) => {
+            value_reference(tag, attribute, quote, partial, b)
+        }
+        Mode::Slashed(opening) => slashed(alloc, here, opening, class),
+        Mode::EndName(rest) => Ok(end_name(rest, b)),
+        Mode::EndSpace => end_space(alloc, outer, here, class),
     }
 }
 
 // A text ends behind its root, between pieces.
-fn tree_at(outer: Stack<Level>, here: Level, mode: Mode) -> Option<Tree>
+fn tree_at(outer: Stack<Held<Level>>, here: Held<Level>, mode: Mode) -> Option<Tree>
     ensures { result ≡ ended outer here mode }
 {
     let Mode::Inside(_) = mode else {
@@ -204,7 +217,7 @@ fn tree_at(outer: Stack<Level>, here: Level, mode: Mode) -> Option<Tree>
     if outer.len() > 0 {
         return None;
     }
-    root(here.content)
+    root(here.into_inner().content)
 }
 
 fn root(content: List<Content>) -> Option<Tree>
@@ -230,23 +243,10 @@ fn child(item: Content) -> Option<Tree>
     }
 }
 
-/// Where a reading stands after one byte more, of which so many were read before.
-pub fn step(alloc: Global, scan: Scan, taken: u64, b: u8) -> Result<Reading, Memory>
-    ensures { IfOk result (λ reading. reading ≡ counted taken (turned scan b)) }
+fn refused(reason: Reason, place: u64) -> Option<Refusal>
+    ensures { result ≡ Some (record { reason = reason; place = place }) }
 {
-    match scan.turn(alloc, b)? {
-        Turn::Refused(reason) => Ok(Reading::Refused(at_limit(taken, reason), taken)),
-        Turn::On(scan) => Ok(counted_on(scan, taken)),
-    }
-}
-
-fn counted_on(scan: Scan, taken: u64) -> Reading
-    ensures { result ≡ counted taken (Turn.On scan) }
-{
-    if taken >= MOST_BYTES {
-        return Reading::Refused(Reason::Size, taken);
-    }
-    Reading::Going(scan, taken + 1)
+    Some(Refusal { reason, place })
 }
 
 // At one place the reason with the lowest number is told.

@@ -1,10 +1,11 @@
 //! Names as a text writes them, with prefixes.
-ghost use Rattle.std.specs.Prelude.{◌≡◌, ◌++◌, ◌∷◌, [], bytes_eq, IfOk};
-ghost use Rattle.ba_xml_reader.specs.Names.{spelled, grown, lettered, unlettered, parted, completed, one_letter, same_name, is_written};
+ghost use Rattle.std.specs.Prelude.{◌≡◌, ◌++◌, ◌∷◌, [], bytes_eq, IfOk, OnOk};
+ghost use Rattle.ba_xml_reader.specs.Names.{spelled, grown, lettered, unlettered, parted, completed, one_letter, same_name, is_written, with_letters};
 
 use crate::classes::Class;
 use ba_core::{List, Memory, Octets};
 use std::alloc::Global;
+use std::mem;
 
 /// A name as it is written (Namespaces in XML 1.0, production 7): one plain name, or two joined by `:`.
 /// The prefix is empty where there is none.
@@ -64,14 +65,14 @@ pub fn first_letter(alloc: Global, b: u8) -> Result<RawName, Memory>
 
 impl RawName {
     /// Where this name stands after one byte more.
-    pub fn grow(self, alloc: Global, b: u8, class: Class) -> Result<Naming, Memory>
+    pub fn grow(self, b: u8, class: Class) -> Result<Naming, Memory>
         ensures { IfOk result (λ naming. naming ≡ grown self b class) }
     {
         match class {
             Class::Letter => self.with_letter(b),
             Class::Digit => self.with_inner(b),
             Class::Hyphen => self.with_inner(b),
-            Class::Colon => Ok(self.with_colon(alloc)),
+            Class::Colon => Ok(self.with_colon()),
             Class::Space => Ok(self.ended()),
             Class::EqualsSign => Ok(self.ended()),
             Class::Slash => Ok(self.ended()),
@@ -81,14 +82,13 @@ impl RawName {
     }
 
     // A letter may stand anywhere.
-    fn with_letter(self, b: u8) -> Result<Naming, Memory>
+    fn with_letter(mut self, b: u8) -> Result<Naming, Memory>
         ensures { IfOk result (λ naming. naming ≡ lettered self b) }
     {
-        let RawName { prefix, local } = self;
-        Ok(Naming::On(RawName {
-            prefix,
-            local: with_byte(local, b)?,
-        }))
+        match self.local.push(b) {
+            Ok(()) => Ok(Naming::On(self)),
+            Err(_) => Err(Memory),
+        }
     }
 
     // A digit, dot or hyphen doesn't begin a plain name.
@@ -102,20 +102,17 @@ impl RawName {
     }
 
     // One colon may stand behind the first plain name.
-    fn with_colon(self, alloc: Global) -> Naming
+    fn with_colon(mut self) -> Naming
         ensures { result ≡ parted self }
     {
-        let RawName { prefix, local } = self;
-        if local.is_empty() {
+        if self.local.is_empty() {
             return Naming::Wrong;
         }
-        if !prefix.is_empty() {
+        if !self.prefix.is_empty() {
             return Naming::Wrong;
         }
-        Naming::On(RawName {
-            prefix: local,
-            local: List::new(alloc),
-        })
+        mem::swap(&mut self.prefix, &mut self.local);
+        Naming::On(self)
     }
 
     // The name may end where a plain name has begun.
@@ -126,6 +123,13 @@ impl RawName {
             return Naming::Wrong;
         }
         Naming::Whole(self)
+    }
+
+    /// Puts more letters on.
+    pub fn put_all(&mut self, bytes: &[u8]) -> Result<(), Memory>
+        ensures { OnOk result (self.new ≡ with_letters self.old bytes.now) }
+    {
+        self.local.append(bytes)
     }
 
     /// The bytes of the name.

@@ -1,8 +1,10 @@
 //! What a start tag means by its prefixes (Namespaces in XML 1.0).
 ghost use Rattle.std.specs.Prelude.{◌≡◌, ◌≤◌, ◌++◌, ◌∷◌, ℕ, length, reverse, bytes_eq, not, [], ◌^◌, IfOk};
 ghost use Rattle.std.specs.List.{list_all};
+ghost use Rattle.std.specs.Vec.Iter.{into_iter_items};
 ghost use Rattle.ba_xml_reader.specs.Namespaces.{opening, opening_in, scope, first_scope, xml_space, is_default, is_prefixed, is_declaration, declaration_of, declarations, is_lawful, is_lawful_prefix, nearest, element_name, attribute_name, attribute_of, name_order, placed, placed_at, next_spot, put_one, put_in_order, IsWithin};
 
+use crate::held::Held;
 use crate::levels::{Declaration, Level, Opening};
 use crate::names::{RawAttribute, RawName};
 use crate::stacks::Stack;
@@ -11,6 +13,7 @@ use ba_core::{List, Memory, Octets};
 use ba_tree::{Attribute, Name};
 use std::alloc::Global;
 use std::cmp::Ordering;
+use std::vec::IntoIter;
 
 /// Where an attribute belongs among others.
 #[derive(Clone, Copy, Debug, PartialEq, Eq)]
@@ -61,7 +64,7 @@ fn with_declaration(
 #[tactic(auto, using(crate::proofs::Openings::unlawful, crate::proofs::Openings::lawful))]
 pub fn open_tag(
     alloc: Global,
-    outer: &Stack<Level>,
+    outer: &Stack<Held<Level>>,
     here: &Level,
     tag: Tag,
 ) -> Result<Option<Opening>, Memory>
@@ -76,25 +79,20 @@ pub fn open_tag(
 
 fn open_with(
     alloc: Global,
-    outer: &Stack<Level>,
+    outer: &Stack<Held<Level>>,
     here: &Level,
     own: List<Declaration>,
     tag: Tag,
 ) -> Result<Option<Opening>, Memory>
     ensures { IfOk result (λ found. found ≡ opening_in (own ++ scope (here.now ∷ outer.now)) own tag) }
 {
-    let Some(name) = element_of(own.as_slice(), outer, here, &tag.name)? else {
+    let Tag { name, attributes } = tag;
+    let Some(name) = element_of(own.as_slice(), outer, here, name)? else {
         return Ok(None);
     };
-    let Some(attributes) = in_order(
-        alloc,
-        own.as_slice(),
-        outer,
-        here,
-        List::new(alloc),
-        tag.attributes.as_slice(),
-    )?
-    else {
+    let rows = room(alloc, attributes.len().saturating_sub(own.len()))?;
+    let raws = attributes.into_vec().into_iter();
+    let Some(attributes) = in_order(alloc, own.as_slice(), outer, here, rows, raws)? else {
         return Ok(None);
     };
     Ok(Some(Opening {
@@ -102,6 +100,16 @@ fn open_with(
         attributes,
         declarations: own,
     }))
+}
+
+// No rows, and memory for so many.
+fn room(alloc: Global, count: usize) -> Result<List<Attribute>, Memory>
+    ensures { IfOk result (λ rows. rows ≡ []) }
+{
+    match Vec::with_capacity(alloc, count) {
+        Ok(rows) => Ok(List::of(rows)),
+        Err(_) => Err(Memory),
+    }
 }
 
 // These declarations, and those among the attributes, of which there are at most 32.
@@ -203,13 +211,13 @@ fn space_in(declarations: &[Declaration], prefix: &[u8]) -> Result<Option<Octets
 
 // What the prefix means in these elements, of which the last is the innermost.
 #[tactic(auto, using(crate::proofs::Nearest::in_front, crate::proofs::Nearest::behind))]
-fn space_outside(levels: &[Level], prefix: &[u8]) -> Result<Option<Octets>, Memory>
+fn space_outside(levels: &[Held<Level>], prefix: &[u8]) -> Result<Option<Octets>, Memory>
     ensures { IfOk result (λ space. space ≡ nearest prefix.now (scope (reverse levels.now))) }
 {
     match levels {
         [] => Ok(None),
         [outer @ .., last] => {
-            if let Some(space) = space_in(last.declarations.as_slice(), prefix)? {
+            if let Some(space) = space_in(last.get().declarations.as_slice(), prefix)? {
                 return Ok(Some(space));
             }
             space_outside(outer, prefix)
@@ -218,7 +226,11 @@ fn space_outside(levels: &[Level], prefix: &[u8]) -> Result<Option<Octets>, Memo
 }
 
 #[tactic(auto, using(crate::proofs::Nearest::in_front, crate::proofs::Nearest::behind))]
-fn space_around(outer: &Stack<Level>, here: &Level, prefix: &[u8]) -> Result<Option<Octets>, Memory>
+fn space_around(
+    outer: &Stack<Held<Level>>,
+    here: &Level,
+    prefix: &[u8],
+) -> Result<Option<Octets>, Memory>
     ensures { IfOk result (λ space. space ≡ nearest prefix.now (scope (here.now ∷ outer.now))) }
 {
     if let Some(space) = space_in(here.declarations.as_slice(), prefix)? {
@@ -230,7 +242,7 @@ fn space_around(outer: &Stack<Level>, here: &Level, prefix: &[u8]) -> Result<Opt
 #[tactic(auto, using(crate::proofs::Nearest::in_front, crate::proofs::Nearest::behind))]
 fn space_of(
     own: &[Declaration],
-    outer: &Stack<Level>,
+    outer: &Stack<Held<Level>>,
     here: &Level,
     prefix: &[u8],
 ) -> Result<Option<Octets>, Memory>
@@ -244,18 +256,16 @@ fn space_of(
 
 fn element_of(
     own: &[Declaration],
-    outer: &Stack<Level>,
+    outer: &Stack<Held<Level>>,
     here: &Level,
-    name: &RawName,
+    name: RawName,
 ) -> Result<Option<Name>, Memory>
-    ensures { IfOk result (λ found. found ≡ element_name (own.now ++ scope (here.now ∷ outer.now)) name.now) }
+    ensures { IfOk result (λ found. found ≡ element_name (own.now ++ scope (here.now ∷ outer.now)) name) }
 {
-    match space_of(own, outer, here, name.prefix.as_slice())? {
+    let RawName { prefix, local } = name;
+    match space_of(own, outer, here, prefix.as_slice())? {
         None => Ok(None),
-        Some(space) => Ok(Some(Name {
-            space,
-            local: name.local.copy()?,
-        })),
+        Some(space) => Ok(Some(Name { space, local })),
     }
 }
 
@@ -263,16 +273,16 @@ fn element_of(
 fn name_of(
     alloc: Global,
     own: &[Declaration],
-    outer: &Stack<Level>,
+    outer: &Stack<Held<Level>>,
     here: &Level,
-    name: &RawName,
+    name: RawName,
 ) -> Result<Option<Name>, Memory>
-    ensures { IfOk result (λ found. found ≡ attribute_name (own.now ++ scope (here.now ∷ outer.now)) name.now) }
+    ensures { IfOk result (λ found. found ≡ attribute_name (own.now ++ scope (here.now ∷ outer.now)) name) }
 {
     if name.prefix.as_slice() == b"".as_slice() {
         return Ok(Some(Name {
             space: List::new(alloc),
-            local: name.local.copy()?,
+            local: name.local,
         }));
     }
     element_of(own, outer, here, name)
@@ -281,18 +291,16 @@ fn name_of(
 fn attribute(
     alloc: Global,
     own: &[Declaration],
-    outer: &Stack<Level>,
+    outer: &Stack<Held<Level>>,
     here: &Level,
-    raw: &RawAttribute,
+    raw: RawAttribute,
 ) -> Result<Option<Attribute>, Memory>
-    ensures { IfOk result (λ found. found ≡ attribute_of (own.now ++ scope (here.now ∷ outer.now)) raw.now) }
+    ensures { IfOk result (λ found. found ≡ attribute_of (own.now ++ scope (here.now ∷ outer.now)) raw) }
 {
-    match name_of(alloc, own, outer, here, &raw.name)? {
+    let RawAttribute { name, value } = raw;
+    match name_of(alloc, own, outer, here, name)? {
         None => Ok(None),
-        Some(name) => Ok(Some(Attribute {
-            name,
-            value: raw.value.copy()?,
-        })),
+        Some(name) => Ok(Some(Attribute { name, value })),
     }
 }
 
@@ -300,24 +308,20 @@ fn attribute(
 fn in_order(
     alloc: Global,
     own: &[Declaration],
-    outer: &Stack<Level>,
+    outer: &Stack<Held<Level>>,
     here: &Level,
     rows: List<Attribute>,
-    raws: &[RawAttribute],
+    mut raws: IntoIter<RawAttribute>,
 ) -> Result<Option<List<Attribute>>, Memory>
-    ensures { IfOk result (λ found. found ≡ put_in_order (own.now ++ scope (here.now ∷ outer.now)) rows raws.now) }
+    ensures { IfOk result (λ found. found ≡ put_in_order (own.now ++ scope (here.now ∷ outer.now)) rows (into_iter_items raws)) }
 {
-    match raws {
-        [] => Ok(Some(rows)),
-        [first, others @ ..] => {
-            if is_declared(first) {
-                return in_order(alloc, own, outer, here, rows, others);
-            }
-            match put(alloc, own, outer, here, rows, first)? {
-                None => Ok(None),
-                Some(rows) => in_order(alloc, own, outer, here, rows, others),
-            }
-        }
+    match raws.next() {
+        None => Ok(Some(rows)),
+        Some(first) if is_declared(&first) => in_order(alloc, own, outer, here, rows, raws),
+        Some(first) => match put(alloc, own, outer, here, rows, first)? {
+            None => Ok(None),
+            Some(rows) => in_order(alloc, own, outer, here, rows, raws),
+        },
     }
 }
 
@@ -325,12 +329,12 @@ fn in_order(
 fn put(
     alloc: Global,
     own: &[Declaration],
-    outer: &Stack<Level>,
+    outer: &Stack<Held<Level>>,
     here: &Level,
     rows: List<Attribute>,
-    raw: &RawAttribute,
+    raw: RawAttribute,
 ) -> Result<Option<List<Attribute>>, Memory>
-    ensures { IfOk result (λ found. found ≡ put_one (own.now ++ scope (here.now ∷ outer.now)) rows raw.now) }
+    ensures { IfOk result (λ found. found ≡ put_one (own.now ++ scope (here.now ∷ outer.now)) rows raw) }
 {
     match attribute(alloc, own, outer, here, raw)? {
         None => Ok(None),

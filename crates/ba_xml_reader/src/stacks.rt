@@ -1,6 +1,5 @@
 //! A `Vec` that contracts see as the list of its items, the last one first.
-ghost use Rattle.std.specs.Prelude.{◌≡◌, ◌∷◌, [], reverse, length, Some, None, IfOk};
-ghost use Rattle.ba_xml_reader.specs.Stacks.{uncons};
+ghost use Rattle.std.specs.Prelude.{◌≡◌, ◌∷◌, [], reverse, length, IfSome, IfNone, OnOk};
 
 use ba_core::Memory;
 use std::alloc::Global;
@@ -47,27 +46,20 @@ impl<T> Stack<T> {
         self.items.as_slice()
     }
 
-    /// The stack with one item more.
-    pub fn with(mut self, item: T) -> Result<Stack<T>, Memory>
+    /// Puts an item on.
+    pub fn push(&mut self, item: T) -> Result<(), Memory>
     where
         T: Drop,
-        ensures { IfOk result (λ stack. stack ≡ item ∷ self) }
+        ensures { OnOk result (self.new ≡ item ∷ self.old) }
     {
-        match self.items.push(item) {
-            Ok(()) => Ok(self),
-            Err(_) => Err(Memory),
-        }
+        self.items.push(item).map_err(|_| Memory)
     }
 
-    /// The last item, and the stack without it.
-    pub fn split(mut self) -> Option<(T, Stack<T>)>
-    where
-        T: Drop,
-        ensures { result ≡ uncons self }
+    /// Takes the last item off.
+    pub fn pop(&mut self) -> Option<T>
+        ensures some { IfSome result (λ item. self.old ≡ item ∷ self.new) }
+        ensures none { IfNone result (self.old ≡ []) }
     {
-        match self.items.pop() {
-            None => None,
-            Some(item) => Some((item, self)),
-        }
+        self.items.pop()
     }
 }

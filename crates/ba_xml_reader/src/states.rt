@@ -1,6 +1,7 @@
 //! Where a reading stands between two bytes.
 
 use crate::faults::Reason;
+use crate::held::Held;
 use crate::levels::{Level, Opening};
 use crate::names::{RawAttribute, RawName};
 use crate::references::Partial;
@@ -95,21 +96,30 @@ pub enum Mode {
     /// `<` and a part of a name.
     TagName(RawName),
     /// A start tag up to a name or a value, and white space behind if true.
-    InTag(Tag, bool),
-    AttributeName(Tag, RawName),
+    InTag(Held<Tag>, bool),
+    AttributeName(Held<Tag>, RawName),
     /// An attribute's name, and perhaps white space.
-    Equals(Tag, RawName),
+    Equals(Held<Tag>, RawName),
     /// An attribute's name and `=`, and perhaps white space.
-    Quote(Tag, RawName),
+    Quote(Held<Tag>, RawName),
     /// A part of a value in this quote.
-    Value(Tag, RawAttribute, u8),
-    ValueReference(Tag, RawAttribute, u8, Partial),
+    Value(Held<Tag>, Held<RawAttribute>, u8),
+    ValueReference(Held<Tag>, Held<RawAttribute>, u8, Partial),
     /// A start tag and `/`.
-    Slashed(Opening),
+    Slashed(Held<Opening>),
     /// `</` and a part of the name.
     EndName(Rest),
     /// `</` and the name, and perhaps white space.
     EndSpace,
+}
+
+/// What a byte leads to.
+#[derive(Debug, Drop)]
+pub enum Next {
+    /// No text begins so.
+    Refused(Reason),
+    /// So much of a piece is read.
+    On(Mode),
 }
 
 /// Where a reading stands between two bytes.
@@ -118,5 +128,5 @@ pub enum State {
     /// No text begins so.
     Refused(Reason),
     /// The open elements, the innermost of them apart, and what of a piece is read.
-    At(Stack<Level>, Level, Mode),
+    At(Stack<Held<Level>>, Held<Level>, Mode),
 }

@@ -4,19 +4,21 @@ ghost use Rattle.ba_tree.specs.declared.trees.Tree.{Tree};
 ghost use Rattle.ba_xml_reader.specs.Answer.{IsAnswer};
 ghost use Rattle.ba_xml_reader.specs.GrammarTexts.{IsXmlText, CanContinue};
 ghost use Rattle.ba_xml_reader.specs.Machine.{xml_answer, answer_of};
+ghost use Rattle.ba_xml_reader.specs.Readings.{Going};
 ghost use Rattle.ba_xml_reader.specs.declared.faults.Reason.{Reason};
 ghost use Rattle.ba_xml_reader.specs.declared.faults.XmlFault.TheVariants as fault;
 
 use crate::faults::{Reason, XmlFault};
-use crate::machine::{Reading, Scan, begun, step};
+use crate::machine::{Refusal, Scan, begun};
+use crate::spans::Taken;
 use ba_tree::Tree;
 use std::alloc::Global;
 
 /// Reads the bytes as a text of XML 1.0 with namespaces, in the part that this product takes, and gives its root:
-/// what is read is such a text, and every one is read, with its tree. Else the answer is why and at which byte the reading stopped; `Truncated`
-/// has the length as its place. For want of memory it answers `Memory`, and with any other fault the bytes are no
-/// text. With `NotUtf8` and `Syntax` no bytes that begin so, up to and with the one at the place, are one either,
-/// whatever its prefixes mean and however large it is.
+/// what is read is such a text, and every one is read, with its tree. Else the answer is why and at which byte the
+/// reading stopped; `Truncated` has the length as its place. For want of memory it answers `Memory`, and with any
+/// other fault the bytes are no text. With `NotUtf8` and `Syntax` no bytes that begin so, up to and with the one at
+/// the place, are one either, whatever its prefixes mean and however large it is.
 /// A text has at most 262,144 bytes, 32 levels and 32 attributes in a tag.
 pub fn read(alloc: Global, bytes: &[u8]) -> Result<Tree, XmlFault>
     ensures answer { IsAnswer (xml_answer bytes.now) result }
@@ -27,22 +29,20 @@ pub fn read(alloc: Global, bytes: &[u8]) -> Result<Tree, XmlFault>
         → (reason ≡ Reason.NotUtf8) ⊎ (reason ≡ Reason.Syntax) → CanContinue (take (place + 1) bytes.now) → ⊥ }
 {
     let mut scan = begun(alloc)?;
-    let mut taken = 0;
-    for b in bytes {
-        match step(alloc, scan, taken, *b)? {
-            Reading::Refused(reason, place) => return Err(XmlFault::At { reason, place }),
-            Reading::Going(next, more) => {
-                scan = next;
-                taken = more;
-            }
+    let mut at = 0;
+    while at < bytes.len() {
+        let Taken { count, refusal } = scan.read_on(alloc, at as u64, &bytes[at..])?;
+        if let Some(Refusal { reason, place }) = refusal {
+            return Err(XmlFault::At { reason, place });
         }
+        at += count;
     }
-    end(scan, taken)
+    end(scan, at as u64)
 }
 
 // The answer where the bytes end here.
 fn end(scan: Scan, taken: u64) -> Result<Tree, XmlFault>
-    ensures { result ≡ answer_of (Reading.Going scan taken) }
+    ensures { result ≡ answer_of (Going scan taken) }
 {
     match scan.finish() {
         Some(tree) => Ok(tree),

@@ -1,0 +1,172 @@
+//! Runs of bytes that are put on as they stand, all at once.
+ghost use Rattle.std.specs.Prelude.{◌≡◌, ◌≤◌, ◌<◌, ◌+◌, true, length, take, List as Items, IfOk, OnOk};
+ghost use Rattle.std.specs.List.{list_all};
+ghost use Rattle.ba_xml_reader.specs.Machine.{run, reading_at};
+ghost use Rattle.ba_xml_reader.specs.Readings.{Going};
+ghost use Rattle.ba_xml_reader.specs.Spans.{is_plain, is_letter, is_put, puts, puts_at, puts_in, puts_inside, with_span, with_span_at, with_span_in};
+
+use crate::classes::is_first_letter;
+use crate::held::Held;
+use crate::levels::Level;
+use crate::machine::{MOST_BYTES, Refusal, Scan};
+use crate::octets::Octet;
+use crate::stacks::Stack;
+use crate::states::{Mode, Seen, State};
+use ba_core::Memory;
+use std::alloc::Global;
+
+/// Which bytes are put on as they stand.
+#[derive(Clone, Copy, Debug, PartialEq, Eq)]
+pub enum Puts {
+    Nothing,
+    /// Characters of ASCII, of which none means anything in content or in a value.
+    Characters,
+    /// Letters of ASCII and `_`.
+    Letters,
+}
+
+/// How many bytes were taken, and why and where no text goes on with them, if none does.
+pub struct Taken {
+    pub count: usize,
+    pub refusal: Option<Refusal>,
+}
+
+// So many of the first bytes, all of which are put on, up to a number. No clause asks for the longest run: a shorter
+// one is only slower.
+fn span_length(puts: Puts, bytes: &[u8], most: u64) -> usize
+    ensures put { list_all (is_put puts) (take result bytes.now) ≡ true }
+    ensures within { result ≤ length bytes.now }
+    ensures most { result ≤ most }
+{
+    let mut length = 0;
+    while length < bytes.len() && (length as u64) < most && is_put(puts, bytes[length]) {
+        length += 1;
+    }
+    length
+}
+
+fn is_put(puts: Puts, b: u8) -> bool
+    ensures { result ≡ is_put puts b }
+{
+    match puts {
+        Puts::Nothing => false,
+        Puts::Characters => is_plain(b),
+        Puts::Letters => is_letter(b),
+    }
+}
+
+fn is_plain(b: u8) -> bool
+    ensures { result ≡ is_plain b }
+{
+    (!(b < 32) && b < 128)
+        && !((b == b'<' || b == b'>') || ((b == b'&' || b == b']') || (b == b'"' || b == b'\'')))
+}
+
+fn is_letter(b: u8) -> bool
+    ensures { result ≡ is_letter b }
+{
+    b < 128 && is_first_letter(b)
+}
+
+impl Scan {
+    /// Takes the first of these bytes, or more of them. So many bytes were read before.
+    pub fn read_on(&mut self, alloc: Global, taken: u64, bytes: &[u8]) -> Result<Taken, Memory>
+        requires { 0 < length bytes.now }
+        ensures read { IfOk result (λ taking. run (Going self.old taken) (take taking.count bytes.now) ≡ reading_at self.new (taken + taking.count) taking.refusal) }
+        ensures some { IfOk result (λ taking. 0 < taking.count) }
+        ensures within { IfOk result (λ taking. taking.count ≤ length bytes.now) }
+    {
+        let count = span_length(self.puts(), bytes, MOST_BYTES.saturating_sub(taken));
+        if count == 0 {
+            let refusal = self.step(alloc, taken, bytes[0])?;
+            return Ok(Taken { count: 1, refusal });
+        }
+        self.put_span(&bytes[..count])?;
+        Ok(Taken {
+            count,
+            refusal: None,
+        })
+    }
+
+    // Puts these bytes on.
+    fn put_span(&mut self, bytes: &[u8]) -> Result<(), Memory>
+        ensures { OnOk result (self.new ≡ with_span self.old bytes.now) }
+    {
+        put_span_at(&mut self.state, bytes)
+    }
+
+    // Which bytes are put on here.
+    fn puts(&self) -> Puts
+        ensures { result ≡ puts self.now }
+    {
+        if self.returned {
+            return Puts::Nothing;
+        }
+        match self.octet {
+            Octet::Between => puts_at(&self.state),
+            _ => Puts::Nothing,
+        }
+    }
+}
+
+fn puts_at(state: &State) -> Puts
+    ensures { result ≡ puts_at state.now }
+{
+    match state {
+        State::Refused(_) => Puts::Nothing,
+        State::At(outer, _, mode) => puts_in(outer, mode),
+    }
+}
+
+fn puts_in(outer: &Stack<Held<Level>>, mode: &Mode) -> Puts
+    ensures { result ≡ puts_in outer.now mode.now }
+{
+    match mode {
+        Mode::Inside(seen) => puts_inside(outer, *seen),
+        // It always is one of these, which no invariant says.
+        Mode::Value(_, _, quote) => {
+            if *quote == b'"' || *quote == b'\'' {
+                Puts::Characters
+            } else {
+                Puts::Nothing
+            }
+        }
+        Mode::TagName(_) => Puts::Letters,
+        Mode::AttributeName(_, _) => Puts::Letters,
+        _ => Puts::Nothing,
+    }
+}
+
+fn puts_inside(outer: &Stack<Held<Level>>, seen: Seen) -> Puts
+    ensures { result ≡ puts_inside outer.now seen }
+{
+    if outer.len() == 0 {
+        return Puts::Nothing;
+    }
+    match seen {
+        Seen::Zero => Puts::Characters,
+        _ => Puts::Nothing,
+    }
+}
+
+// Puts these bytes on.
+fn put_span_at(state: &mut State, bytes: &[u8]) -> Result<(), Memory>
+    ensures { OnOk result (state.new ≡ with_span_at state.old bytes.now) }
+{
+    match state {
+        State::Refused(_) => Ok(()),
+        State::At(_, here, mode) => put_span_in(here, mode, bytes),
+    }
+}
+
+fn put_span_in(here: &mut Held<Level>, mode: &mut Mode, bytes: &[u8]) -> Result<(), Memory>
+    ensures { OnOk result ((outer : Items Level) → State.At outer here.new mode.new ≡ with_span_in outer here.old mode.old bytes.now) }
+{
+    match mode {
+        Mode::Inside(_) => here.put_all(bytes),
+        Mode::Value(_, attribute, _) => attribute.put_all(bytes),
+        Mode::TagName(name) => name.put_all(bytes),
+        Mode::AttributeName(_, name) => name.put_all(bytes),
+        _ => Ok(()),
+    }
+}
