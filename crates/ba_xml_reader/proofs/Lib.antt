@@ -14,6 +14,7 @@ pub mod CompleteSteps
 pub mod CompleteTags
 pub mod CompleteUtf8
 pub mod Dead
+pub mod Fronts
 pub mod Kept
 pub mod Nearest
 pub mod Openings

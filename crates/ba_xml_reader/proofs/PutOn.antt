@@ -1,5 +1,5 @@
 -- Bytes that are put on all at once are those that the machine puts on one by one.
-use Rattle.std.proofs.Common.{◌≡◌, ℕ, zero, suc, take, get_or, ◌-◌, ◌+◌, ◌<◌, ◌≤◌, Bool, true, false, cond, not, ◌&&◌, ◌||◌, ◌==◌, nat_lt}
+use Rattle.std.proofs.Common.{◌≡◌, ℕ, zero, suc, take, drop, get_or, ◌-◌, ◌+◌, ◌<◌, ◌≤◌, Bool, true, false, cond, not, ◌&&◌, ◌||◌, ◌==◌, nat_lt}
 use Rattle.std.proofs.Common.{List, [], ◌∷◌, ◌++◌, length, refl, sym, ap, ◌∙◌, subst, arith, append_assoc, append-nil, true≢false}
 use Rattle.std.specs.List.{list_all}
 use Rattle.std.proofs.lemmas.List.{length-take-le}
@@ -9,8 +9,9 @@ use Rattle.ba_xml_reader.specs.Levels.{put}
 use Rattle.ba_xml_reader.specs.Machine.{run, reading_after, counted, turned, turned_by, turned_from, state_after, act_by}
 use Rattle.ba_xml_reader.specs.Names.{with_letters}
 use Rattle.ba_xml_reader.specs.Octets.{octet_after, lead}
-use Rattle.ba_xml_reader.specs.Spans.{is_plain, is_letter, is_put, puts, puts_in, puts_inside, with_span, with_span_at, with_span_in}
-use Rattle.ba_xml_reader.specs.Tags.{value_by, value_more, with_attribute}
+use Rattle.ba_xml_reader.specs.Spans.{is_plain, is_letter, is_put, is_none, is_run, is_run_in, before_name, puts_inside, with_span, with_span_at, with_span_in}
+use Rattle.ba_xml_reader.specs.Rests.{is_front}
+use Rattle.ba_xml_reader.specs.Tags.{value_by, value_more, with_attribute, end_name_by}
 use Rattle.ba_xml_reader.specs.declared.classes.Class.{Class}
 use Rattle.ba_xml_reader.specs.declared.classes.Class.TheVariants as class
 use Rattle.ba_xml_reader.specs.declared.faults.Reason.TheVariants as reason
@@ -24,7 +25,7 @@ use Rattle.ba_xml_reader.specs.declared.octets.Octet.{Octet}
 use Rattle.ba_xml_reader.specs.declared.octets.Octet.TheVariants.{Between}
 use Rattle.ba_xml_reader.specs.declared.octets.Decoding.{Decoding}
 use Rattle.ba_xml_reader.specs.declared.octets.Decoding.TheVariants as decoding
-use Rattle.ba_xml_reader.specs.declared.spans.Puts.{Puts}
+use Rattle.ba_xml_reader.specs.declared.rests.Meeting.TheVariants as meeting
 use Rattle.ba_xml_reader.specs.declared.spans.Puts.TheVariants as puts'
 use Rattle.ba_xml_reader.specs.declared.states.Mode.{Mode}
 use Rattle.ba_xml_reader.specs.declared.states.Mode.TheVariants as mode
@@ -271,25 +272,81 @@ quoted_runs outer here tag a quote bs taken false true d q all s h =
     value_runs outer here tag a quote bs taken (λ b is. subst (λ x. (b == x) ≡ false) (sym (eqb-true quote 39 q)) is.no_apostrophe) all h
 quoted_runs outer here tag a quote bs taken false false d q all s h = absurd (nothing bs all s)
 
-at_runs : (outer : List Level) (here : Level) (m : Mode) (bs : List ℕ) (taken : ℕ) → list_all (is_put (puts_in outer m)) bs ≡ true
+-- the bytes of an end tag's name
+end_name_step : (outer : List Level) (here : Level) (x : ℕ) (xs : List ℕ) (b : ℕ) → (x == b) ≡ true
+    → state_after (state.At outer here (mode.EndName (x ∷ xs))) b ≡ state.At outer here (before_name xs)
+end_name_step outer here x [] b e =
+    by_kind outer here (mode.EndName (x ∷ [])) b (class_of b) refl ∙ ap (λ t. end_name_by outer here (cond t meeting.Whole meeting.Wrong)) e
+end_name_step outer here x (y ∷ ys) b e =
+    by_kind outer here (mode.EndName (x ∷ y ∷ ys)) b (class_of b) refl ∙ ap (λ t. end_name_by outer here (cond t (meeting.On (y ∷ ys)) meeting.Wrong)) e
+
+front_runs : (outer : List Level) (here : Level) (rest bs : List ℕ) (taken : ℕ) → list_all is_plain bs ≡ true → is_front bs rest ≡ true
+    → taken + length bs ≤ 262144
+    → run (Going (calm_scan (state.At outer here (before_name rest))) taken) bs
+    ≡ Going (calm_scan (state.At outer here (before_name (drop (length bs) rest)))) (taken + length bs)
+front_runs outer here rest [] taken a f h =
+    run_none (Going (calm_scan (state.At outer here (before_name rest))) taken)
+    ∙ ap (λ n. Going (calm_scan (state.At outer here (before_name rest))) n) same
+  where
+    same : taken ≡ taken + length {A = ℕ} []
+    same = omega arith
+front_runs outer here [] (b ∷ bs) taken a f h = absurd (true≢false (sym f))
+front_runs outer here (x ∷ xs) (b ∷ bs) taken a f h =
+    run_more (Going (calm_scan (state.At outer here (mode.EndName (x ∷ xs)))) taken) b bs
+    ∙ ap (λ r. run r bs) (once (calm_scan (state.At outer here (mode.EndName (x ∷ xs)))) (calm_scan (state.At outer here (before_name xs))) taken b
+    (turn_on outer outer here here (mode.EndName (x ∷ xs)) (before_name xs) b is.one is.no_return (end_name_step outer here x xs b (both (x == b) (is_front bs xs) f).0)) below)
+    ∙ front_runs outer here xs bs (taken + 1) (both (is_plain b) (list_all is_plain bs) a).1 (both (x == b) (is_front bs xs) f).1 within
+    ∙ ap (λ n. Going (calm_scan (state.At outer here (before_name (drop (length bs) xs)))) n) same
+  where
+    is : IsCalm b
+    is = plain_calm b (both (is_plain b) (list_all is_plain bs) a).0
+
+    below : taken < 262144
+    below = omega (arith, h)
+
+    within : taken + 1 + length bs ≤ 262144
+    within = omega (arith, h)
+
+    same : taken + 1 + length bs ≡ taken + length (b ∷ bs)
+    same = omega arith
+
+name_runs_on : (outer : List Level) (here : Level) (rest bs : List ℕ) (taken : ℕ) → (list_all is_plain bs && is_front bs rest) ≡ true
+    → 0 < length bs → taken + length bs ≤ 262144 → Runs outer here (mode.EndName rest) bs taken
+name_runs_on outer here [] [] taken a s h = absurd (no_less s)
+  where
+    no_less : 0 < length {A = ℕ} [] → ⊥
+    no_less s = omega (arith, s)
+name_runs_on outer here [] (b ∷ bs) taken a s h = absurd (true≢false (sym (both (list_all is_plain (b ∷ bs)) false a).1))
+name_runs_on outer here (x ∷ xs) bs taken a s h =
+    front_runs outer here (x ∷ xs) bs taken (both (list_all is_plain bs) (is_front bs (x ∷ xs)) a).0 (both (list_all is_plain bs) (is_front bs (x ∷ xs)) a).1 h
+
+at_runs : (outer : List Level) (here : Level) (m : Mode) (bs : List ℕ) (taken : ℕ) → is_run_in outer m bs ≡ true
     → 0 < length bs → taken + length bs ≤ 262144 → Runs outer here m bs taken
 at_runs outer here (mode.Inside seen) bs taken a s h = inside_runs outer here seen bs taken a s h
 at_runs outer here (mode.Value tag x quote) bs taken a s h = quoted_runs outer here tag x quote bs taken (quote == 34) (quote == 39) refl refl a s h
 at_runs outer here (mode.TagName name) bs taken a s h = name_runs outer here (λ n. mode.TagName n) name bs taken (λ n b. refl) a h
 at_runs outer here (mode.AttributeName tag name) bs taken a s h = name_runs outer here (λ n. mode.AttributeName tag n) name bs taken (λ n b. refl) a h
+at_runs outer here (mode.EndName rest) bs taken a s h = name_runs_on outer here rest bs taken a s h
 at_runs outer here m bs taken a s h = absurd (nothing bs a s)
 
+none_long : (bs : List ℕ) → is_none bs ≡ true → 0 < length bs → ⊥
+none_long [] a s = no_less s
+  where
+    no_less : 0 < length {A = ℕ} [] → ⊥
+    no_less s = omega (arith, s)
+none_long (b ∷ bs) a s = true≢false (sym a)
+
 by_parts : (s : State) (octet : Octet) (returned : Bool) (bs : List ℕ) (taken : ℕ)
-    → list_all (is_put (puts (record { state = s; octet = octet; returned = returned }))) bs ≡ true → 0 < length bs → taken + length bs ≤ 262144
+    → is_run (record { state = s; octet = octet; returned = returned }) bs ≡ true → 0 < length bs → taken + length bs ≤ 262144
     → run (Going (record { state = s; octet = octet; returned = returned }) taken) bs
     ≡ Going (record { state = with_span_at s bs; octet = octet; returned = returned }) (taken + length bs)
-by_parts s octet true bs taken a some h = absurd (nothing bs a some)
-by_parts (state.Refused r) Between false bs taken a some h = absurd (nothing bs a some)
+by_parts s octet true bs taken a some h = absurd (none_long bs a some)
+by_parts (state.Refused r) Between false bs taken a some h = absurd (none_long bs a some)
 by_parts (state.At outer here m) Between false bs taken a some h = at_runs outer here m bs taken a some h
-by_parts s octet false bs taken a some h = absurd (nothing bs a some)
+by_parts s octet false bs taken a some h = absurd (none_long bs a some)
 
 -- what is put on at once is what the machine puts on byte by byte
-pub put_on : (scan : Scan) (bs : List ℕ) (taken : ℕ) → list_all (is_put (puts scan)) bs ≡ true → 0 < length bs → taken + length bs ≤ 262144
+pub put_on : (scan : Scan) (bs : List ℕ) (taken : ℕ) → is_run scan bs ≡ true → 0 < length bs → taken + length bs ≤ 262144
     → run (Going scan taken) bs ≡ Going (with_span scan bs) (taken + length bs)
 put_on scan bs taken a some h = by_parts scan.state scan.octet scan.returned bs taken a some h
 
@@ -304,11 +361,11 @@ first_byte scan taken [] h = absurd (none h)
 first_byte scan taken (b ∷ bs) h = run_more (Going scan taken) b [] ∙ run_none (counted taken (turned scan b))
 
 -- so many of the first bytes
-pub first_put_on : (scan next : Scan) (bs : List ℕ) (taken count : ℕ) (which : Puts) → which ≡ puts scan → list_all (is_put which) (take count bs) ≡ true
+pub first_put_on : (scan next : Scan) (bs : List ℕ) (taken count : ℕ) → is_run scan (take count bs) ≡ true
     → count ≤ length bs → (count ≡ 0 → ⊥) → count ≤ 262144 - taken → next ≡ with_span scan (take count bs)
     → run (Going scan taken) (take count bs) ≡ Going next (taken + count)
-first_put_on scan next bs taken count which w a within some most e =
-    put_on scan (take count bs) taken (subst (λ k. list_all (is_put k) (take count bs) ≡ true) w a) more room
+first_put_on scan next bs taken count a within some most e =
+    put_on scan (take count bs) taken a more room
     ∙ ap (λ n. Going (with_span scan (take count bs)) (taken + n)) long
     ∙ ap (λ s. Going s (taken + count)) (sym e)
   where

@@ -1,9 +1,10 @@
--- Bytes that are put on as they stand, one after another: how the reader takes runs of them. None of it is part of what
--- the reader promises.
-use Rattle.std.specs.Prelude.{ℕ, Bool, false, cond, ◌&&◌, ◌||◌, ◌==◌, not, nat_lt, List, ◌∷◌, ◌++◌}
+-- Runs of bytes that the reader takes at once. None of it is part of what the reader promises.
+use Rattle.std.specs.Prelude.{ℕ, Bool, true, false, cond, ◌&&◌, ◌||◌, ◌==◌, not, nat_lt, List, [], ◌∷◌, drop, length}
+use Rattle.std.specs.List.{list_all}
 use Rattle.ba_xml_reader.specs.Classes.{is_first_letter}
 use Rattle.ba_xml_reader.specs.Levels.{put_all}
 use Rattle.ba_xml_reader.specs.Names.{with_letters}
+use Rattle.ba_xml_reader.specs.Rests.{is_front}
 use Rattle.ba_xml_reader.specs.Tags.{with_value}
 use Rattle.ba_xml_reader.specs.declared.levels.Level.{Level}
 use Rattle.ba_xml_reader.specs.declared.machine.Scan.{Scan}
@@ -32,6 +33,10 @@ is_put puts'.Nothing b = false
 is_put puts'.Characters b = is_plain b
 is_put puts'.Letters b = is_letter b
 
+abbrev pub is_none : List ℕ → Bool
+is_none [] = true
+is_none (b ∷ bytes) = false
+
 abbrev pub puts_inside : List Level → Seen → Puts
 puts_inside (parent ∷ outer) Zero = puts'.Characters
 puts_inside outer seen = puts'.Nothing
@@ -44,17 +49,27 @@ puts_in outer (mode.TagName name) = puts'.Letters
 puts_in outer (mode.AttributeName tag name) = puts'.Letters
 puts_in outer m = puts'.Nothing
 
-abbrev pub puts_at : State → Puts
-puts_at (Refused r) = puts'.Nothing
-puts_at (At outer here m) = puts_in outer m
+-- in an end tag the bytes that have to come are a run, else those that are put on as they stand
+abbrev pub is_run_in : List Level → Mode → List ℕ → Bool
+is_run_in outer (mode.EndName rest) bytes = list_all is_plain bytes && is_front bytes rest
+is_run_in outer m bytes = list_all (is_put (puts_in outer m)) bytes
 
-abbrev pub puts_between : Octet → State → Puts
-puts_between Between state = puts_at state
-puts_between octet state = puts'.Nothing
+abbrev pub is_run_at : State → List ℕ → Bool
+is_run_at (Refused r) bytes = is_none bytes
+is_run_at (At outer here m) bytes = is_run_in outer m bytes
 
--- nothing behind a carriage return or inside a character
-abbrev pub puts : Scan → Puts
-puts scan = cond scan.returned puts'.Nothing (puts_between scan.octet scan.state)
+abbrev pub is_run_between : Octet → State → List ℕ → Bool
+is_run_between Between state bytes = is_run_at state bytes
+is_run_between octet state bytes = is_none bytes
+
+-- there is none behind a carriage return or inside a character
+abbrev pub is_run : Scan → List ℕ → Bool
+is_run scan bytes = cond scan.returned (is_none bytes) (is_run_between scan.octet scan.state bytes)
+
+-- behind so much of an end tag that these bytes of its name have to come
+abbrev pub before_name : List ℕ → Mode
+before_name [] = mode.EndSpace
+before_name (x ∷ xs) = mode.EndName (x ∷ xs)
 
 -- with these bytes put on
 abbrev pub with_span_in : List Level → Level → Mode → List ℕ → State
@@ -62,6 +77,7 @@ with_span_in outer here (mode.Inside seen) bytes = At outer (put_all here bytes)
 with_span_in outer here (mode.Value tag a quote) bytes = At outer here (mode.Value tag (with_value a bytes) quote)
 with_span_in outer here (mode.TagName name) bytes = At outer here (mode.TagName (with_letters name bytes))
 with_span_in outer here (mode.AttributeName tag name) bytes = At outer here (mode.AttributeName tag (with_letters name bytes))
+with_span_in outer here (mode.EndName rest) bytes = At outer here (before_name (drop (length bytes) rest))
 with_span_in outer here m bytes = At outer here m
 
 abbrev pub with_span_at : State → List ℕ → State

@@ -1,5 +1,5 @@
 //! What is still to come of some bytes.
-ghost use Rattle.std.specs.Prelude.{◌≡◌, ◌∷◌, [], IfSome};
+ghost use Rattle.std.specs.Prelude.{◌≡◌, ◌∷◌, ◌↔◌, [], IsTrue, drop};
 ghost use Rattle.ba_xml_reader.specs.Rests.{met};
 
 use ba_core::Octets;
@@ -37,6 +37,31 @@ impl Rest {
         ensures { result ≡ bytes }
     {
         Rest { bytes, at: 0 }
+    }
+
+    /// The bytes themselves.
+    pub fn as_slice(&self) -> &[u8]
+        ensures { result.now ≡ self.now }
+    {
+        &self.bytes.as_slice()[self.at.min(self.bytes.len())..]
+    }
+
+    pub fn is_empty(&self) -> bool
+        ensures { IsTrue result ↔ (self.now ≡ []) }
+    {
+        self.as_slice().is_empty()
+    }
+
+    /// Takes so many of them.
+    pub fn skip(&mut self, count: usize)
+        ensures { self.new ≡ drop count self.old }
+    {
+        let left = self.bytes.len().saturating_sub(self.at);
+        if count < left {
+            self.at += count;
+        } else {
+            self.at = self.bytes.len();
+        }
     }
 
     /// What this byte is to them.

@@ -1,9 +1,10 @@
-//! Runs of bytes that are put on as they stand, all at once.
+//! Runs of bytes that are taken at once: those that are put on as they stand, and those of an end tag's name.
 ghost use Rattle.std.specs.Prelude.{◌≡◌, ◌≤◌, ◌<◌, ◌+◌, true, length, take, List as Items, IfOk, OnOk};
 ghost use Rattle.std.specs.List.{list_all};
 ghost use Rattle.ba_xml_reader.specs.Machine.{run, reading_at};
 ghost use Rattle.ba_xml_reader.specs.Readings.{Going};
-ghost use Rattle.ba_xml_reader.specs.Spans.{is_plain, is_letter, is_put, puts, puts_at, puts_in, puts_inside, with_span, with_span_at, with_span_in};
+ghost use Rattle.ba_xml_reader.specs.Rests.{is_front};
+ghost use Rattle.ba_xml_reader.specs.Spans.{is_plain, is_letter, is_put, is_run, is_run_at, is_run_in, puts_in, puts_inside, with_span, with_span_at, with_span_in};
 
 use crate::classes::is_first_letter;
 use crate::held::Held;
@@ -45,6 +46,25 @@ fn span_length(puts: Puts, bytes: &[u8], most: u64) -> usize
     length
 }
 
+// So many of the first bytes of both that are the same and plain, up to a number.
+fn front_length(rest: &[u8], bytes: &[u8], most: u64) -> usize
+    ensures plain { list_all is_plain (take result bytes.now) ≡ true }
+    ensures front { is_front (take result bytes.now) rest.now ≡ true }
+    ensures within { result ≤ length bytes.now }
+    ensures most { result ≤ most }
+{
+    let mut length = 0;
+    while length < bytes.len()
+        && length < rest.len()
+        && (length as u64) < most
+        && rest[length] == bytes[length]
+        && is_plain(bytes[length])
+    {
+        length += 1;
+    }
+    length
+}
+
 fn is_put(puts: Puts, b: u8) -> bool
     ensures { result ≡ is_put puts b }
 {
@@ -76,7 +96,7 @@ impl Scan {
         ensures some { IfOk result (λ taking. 0 < taking.count) }
         ensures within { IfOk result (λ taking. taking.count ≤ length bytes.now) }
     {
-        let count = span_length(self.puts(), bytes, MOST_BYTES.saturating_sub(taken));
+        let count = self.run_length(bytes, MOST_BYTES.saturating_sub(taken));
         if count == 0 {
             let refusal = self.step(alloc, taken, bytes[0])?;
             return Ok(Taken { count: 1, refusal });
@@ -95,26 +115,41 @@ impl Scan {
         put_span_at(&mut self.state, bytes)
     }
 
-    // Which bytes are put on here.
-    fn puts(&self) -> Puts
-        ensures { result ≡ puts self.now }
+    // How many of the first bytes are a run, up to a number.
+    fn run_length(&self, bytes: &[u8], most: u64) -> usize
+        ensures run { is_run self.now (take result bytes.now) ≡ true }
+        ensures within { result ≤ length bytes.now }
+        ensures most { result ≤ most }
     {
         if self.returned {
-            return Puts::Nothing;
+            return 0;
         }
         match self.octet {
-            Octet::Between => puts_at(&self.state),
-            _ => Puts::Nothing,
+            Octet::Between => run_length_at(&self.state, bytes, most),
+            _ => 0,
         }
     }
 }
 
-fn puts_at(state: &State) -> Puts
-    ensures { result ≡ puts_at state.now }
+fn run_length_at(state: &State, bytes: &[u8], most: u64) -> usize
+    ensures run { is_run_at state.now (take result bytes.now) ≡ true }
+    ensures within { result ≤ length bytes.now }
+    ensures most { result ≤ most }
 {
     match state {
-        State::Refused(_) => Puts::Nothing,
-        State::At(outer, _, mode) => puts_in(outer, mode),
+        State::Refused(_) => 0,
+        State::At(outer, _, mode) => run_length_in(outer, mode, bytes, most),
+    }
+}
+
+fn run_length_in(outer: &Stack<Held<Level>>, mode: &Mode, bytes: &[u8], most: u64) -> usize
+    ensures run { is_run_in outer.now mode.now (take result bytes.now) ≡ true }
+    ensures within { result ≤ length bytes.now }
+    ensures most { result ≤ most }
+{
+    match mode {
+        Mode::EndName(rest) => front_length(rest.as_slice(), bytes, most),
+        _ => span_length(puts_in(outer, mode), bytes, most),
     }
 }
 
@@ -167,6 +202,13 @@ fn put_span_in(here: &mut Held<Level>, mode: &mut Mode, bytes: &[u8]) -> Result<
         Mode::Value(_, attribute, _) => attribute.put_all(bytes),
         Mode::TagName(name) => name.put_all(bytes),
         Mode::AttributeName(_, name) => name.put_all(bytes),
+        Mode::EndName(rest) => {
+            rest.skip(bytes.len());
+            if rest.is_empty() {
+                *mode = Mode::EndSpace;
+            }
+            Ok(())
+        }
         _ => Ok(()),
     }
 }

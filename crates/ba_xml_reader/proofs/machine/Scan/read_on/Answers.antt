@@ -7,6 +7,6 @@ returns-then-count-eq0-clause-read c = first_byte c.args.self.now c.args.taken c
 
 pub returns-clause-read : goal.returns-clause-read
 returns-clause-read c =
-    first_put_on c.args.self.now c.put_span.new.self c.args.bytes.now c.args.taken c.span_length-count.result c.puts.result c.puts.ensures
-    c.span_length-count.ensures.put c.span_length-count.ensures.within (λ e. c.if-count-eq0.false e)
-    (omega (arith, c.span_length-count.ensures.most, c.saturating_sub.ensures)) c.in_ok-put_span.ensures
+    first_put_on c.args.self.now c.put_span.new.self c.args.bytes.now c.args.taken c.run_length-count.result c.run_length-count.ensures.run
+    c.run_length-count.ensures.within (λ e. c.if-count-eq0.false e)
+    (omega (arith, c.run_length-count.ensures.most, c.saturating_sub.ensures)) c.in_ok-put_span.ensures
