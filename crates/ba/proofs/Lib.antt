@@ -1,12 +1,2 @@
-pub mod Blocks
-pub mod Breaks
-pub mod Decimals
-pub mod Due
-pub mod Feeds
-pub mod LineCases
-pub mod OneReading
-pub mod Printed
-pub mod Progress
-pub mod Promised
-pub mod Refusals
-pub mod Streaming
+pub mod NoteLemmas
+pub mod Statuses

@@ -1,4 +1,4 @@
--- The command lines that are built by now.
+-- Believe: the command lines.
 use Rattle.std.specs.Prelude.{◌≡◌, ℕ, List, [], ◌∷◌, codes}
 use Rattle.ba.specs.declared.command.Command.{Command}
 use Rattle.ba.specs.declared.command.Command.TheVariants.{Replay, Check, Journal}

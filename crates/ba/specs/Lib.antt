@@ -1,13 +1,3 @@
-pub mod AtHand
-pub mod Checking
 pub mod Command
-pub mod Journaling
-pub mod Lines
 pub mod Notes
-pub mod Output
-pub mod Promise
-pub mod Replaying
-pub mod ScriptText
-pub mod Shown
-pub mod Taking
-pub mod Whole
+pub mod Run

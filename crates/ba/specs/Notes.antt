@@ -1,12 +1,35 @@
--- The statuses of a run, and the notes that say why it ended early.
-use Rattle.std.specs.Prelude.{◌≡◌, ℕ, IsTrue, List, [], ◌∷◌, ◌++◌, nat_eq, codes, Option}
+-- Believe: the statuses of a run, and the notes that say why it ended early.
+use Rattle.std.specs.Prelude.{ℕ, IsTrue, List, [], ◌∷◌, ◌++◌, nat_eq, codes}
 use Rattle.std.specs.Fmt.{decimal}
 use Rattle.std.specs.List.{list_any}
-use Rattle.ba_xml_reader.specs.declared.faults.Reason.{Reason}
-use Rattle.ba_xml_reader.specs.declared.faults.Reason.TheVariants as reason
+use Rattle.ba_check.specs.declared.checks.CheckFault.{CheckFault}
+use Rattle.ba_check.specs.declared.checks.CheckFault.TheVariants as check
+use Rattle.ba_listing.specs.declared.journals.ListFault.{ListFault}
+use Rattle.ba_listing.specs.declared.journals.ListFault.TheVariants as list
+use Rattle.ba_replay.specs.declared.faults.ReplayFault.{ReplayFault}
+use Rattle.ba_replay.specs.declared.faults.ReplayFault.TheVariants as replay
+use Rattle.ba_xml_words.specs.declared.faults.Reason.{Reason}
+use Rattle.ba_xml_words.specs.declared.faults.Reason.TheVariants as reason
 use Rattle.ba.specs.declared.notes.RunFault.{RunFault}
 use Rattle.ba.specs.declared.notes.RunFault.TheVariants as fault
-use Rattle.ba.specs.Output.{WritesPart}
+
+-- ---- notes
+
+-- a word, and a number in decimal
+abbrev pub counted_text : List ℕ → ℕ → List ℕ
+counted_text word number = word ++ decimal number
+
+-- two words, each with its number, on a line
+abbrev pub counts_text : List ℕ → ℕ → List ℕ → ℕ → List ℕ
+counts_text word number other count = counted_text word number ++ (counted_text other count ++ codes "\n")
+
+abbrev pub replay_note : ReplayFault → List ℕ
+replay_note (replay.BadLine number column) = counts_text (codes "line ") number (codes " column ") column
+replay_note (replay.NoSuchMessage number) = counted_text (codes "line ") number ++ codes " no such message\n"
+replay_note replay.Read = codes "read\n"
+replay_note replay.Write = codes "write\n"
+replay_note replay.Memory = codes "memory\n"
+replay_note replay.TooManyLines = codes "limit\n"
 
 -- the number of a reason
 abbrev pub reason_number : Reason → ℕ
@@ -18,33 +41,61 @@ reason_number reason.Depth = 5
 reason_number reason.Size = 6
 reason_number reason.Attributes = 7
 
+abbrev pub check_note : CheckFault → List ℕ
+check_note (check.Refused why place) = counts_text (codes "xml ") (reason_number why) (codes " at ") place
+check_note check.Read = codes "read\n"
+check_note check.Write = codes "write\n"
+check_note check.Memory = codes "memory\n"
+check_note check.TooLong = codes "limit\n"
+check_note check.Unwritable = codes "limit\n"
+
+abbrev pub list_note : ListFault → List ℕ
+list_note (list.NoJournal place) = counted_text (codes "journal at ") place ++ codes "\n"
+list_note list.Read = codes "read\n"
+list_note list.Write = codes "write\n"
+list_note list.Memory = codes "memory\n"
+list_note list.TooLong = codes "limit\n"
+
 -- the note of a run that ended early
 abbrev pub note_text : RunFault → List ℕ
 note_text fault.Usage = codes "usage\n"
-note_text (fault.BadLine number column) = codes "line " ++ (decimal number ++ (codes " column " ++ (decimal column ++ codes "\n")))
-note_text (fault.NoSuchMessage number) = codes "line " ++ (decimal number ++ codes " no such message\n")
-note_text (fault.Xml why place) = codes "xml " ++ (decimal (reason_number why) ++ (codes " at " ++ (decimal place ++ codes "\n")))
-note_text (fault.NoJournal place) = codes "journal at " ++ (decimal place ++ codes "\n")
-note_text fault.Read = codes "read\n"
-note_text fault.Write = codes "write\n"
 note_text fault.Memory = codes "memory\n"
-note_text fault.Limit = codes "limit\n"
+note_text (fault.Replay why) = replay_note why
+note_text (fault.Check why) = check_note why
+note_text (fault.Journal why) = list_note why
+
+-- ---- statuses: 3 the input is refused, 4 it can't be read, 5 the output can't be written, 6 memory, 7 a limit
+
+abbrev pub replay_status : ReplayFault → ℕ
+replay_status (replay.BadLine number column) = 3
+replay_status (replay.NoSuchMessage number) = 3
+replay_status replay.Read = 4
+replay_status replay.Write = 5
+replay_status replay.Memory = 6
+replay_status replay.TooManyLines = 7
+
+abbrev pub check_status : CheckFault → ℕ
+check_status (check.Refused why place) = 3
+check_status check.Read = 4
+check_status check.Write = 5
+check_status check.Memory = 6
+check_status check.TooLong = 7
+check_status check.Unwritable = 7
+
+abbrev pub list_status : ListFault → ℕ
+list_status (list.NoJournal place) = 3
+list_status list.Read = 4
+list_status list.Write = 5
+list_status list.Memory = 6
+list_status list.TooLong = 7
 
 -- the status of a run that ended early
 abbrev pub status_of : RunFault → ℕ
 status_of fault.Usage = 2
-status_of (fault.BadLine number column) = 3
-status_of (fault.NoSuchMessage number) = 3
-status_of (fault.Xml why place) = 3
-status_of (fault.NoJournal place) = 3
-status_of fault.Read = 4
-status_of fault.Write = 5
 status_of fault.Memory = 6
-status_of fault.Limit = 7
-
--- the note of an end with this status, or a front of it, was left
-abbrev pub NotesEnd : ℕ → Option (List ℕ) → Option (List ℕ) → Type 0
-NotesEnd status silent noted = (why : RunFault) × (status_of why ≡ status) × WritesPart silent noted (note_text why)
+status_of (fault.Replay why) = replay_status why
+status_of (fault.Check why) = check_status why
+status_of (fault.Journal why) = list_status why
 
 -- the statuses of a run
 abbrev pub IsStatus : ℕ → Type 0

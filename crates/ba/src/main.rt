@@ -2,48 +2,47 @@
 //! journals. `main` hands in the real standard streams and the words of the command line, and nothing else.
 #![tactic(auto)]
 
-mod check;
-#[cfg(test)]
-mod check_tests;
 mod command;
-mod input;
-mod journal;
-#[cfg(test)]
-mod journal_tests;
 mod notes;
-mod output;
-#[cfg(test)]
-mod piece_tests;
-mod play;
-mod replay;
 mod run;
-mod script;
-mod show;
 #[cfg(test)]
 mod tests;
 
-use ba_ports::{ReadSource, WriteSink};
+use ba_system::{ReadSource, WriteSink};
 use notes::{RunFault, refuse};
 use run::run;
+use std::alloc::Global;
 use std::env;
 use std::io::ErrorKind;
 use std::process::ExitCode;
+use std::rt::{Stderr, Stdin, Stdout};
 
 fn main(rt: HostRuntime) -> ExitCode {
-    let mut source = ReadSource::of(rt.stdin());
-    let mut sink = WriteSink::of(rt.stdout());
-    let mut notes = WriteSink::of(rt.stderr());
-    let status = match words_given(&rt) {
-        Ok(words) => run(
-            rt.alloc(),
+    let words = words_given(&rt);
+    ExitCode::from(run_over(rt.alloc(), words, rt.stdin(), rt.stdout(), rt.stderr()))
+}
+
+// Runs over the standard streams. Their types alone say which is which, so that none stands in for another.
+fn run_over(
+    alloc: Global,
+    words: Result<Vec<String>, RunFault>,
+    stdin: Stdin,
+    stdout: Stdout,
+    stderr: Stderr,
+) -> u8 {
+    let mut source = ReadSource::of(stdin);
+    let mut sink = WriteSink::of(stdout);
+    let mut notes = WriteSink::of(stderr);
+    match words {
+        Ok(words) => run::<ReadSource<Stdin>, WriteSink<Stdout>, WriteSink<Stderr>>(
+            alloc,
             words.as_slice(),
             &mut source,
             &mut sink,
             &mut notes,
         ),
-        Err(fault) => refuse(rt.alloc(), fault, &mut notes),
-    };
-    ExitCode::from(status)
+        Err(fault) => refuse::<WriteSink<Stderr>>(fault, &mut notes),
+    }
 }
 
 // The words after the program's name. One that isn't UTF-8 is no word of any command line.

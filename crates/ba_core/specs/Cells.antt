@@ -1,4 +1,4 @@
--- What stands in a cell of a state table, and of which protocol a row is.
+-- Believe: what stands in a cell of a state table, and of which protocol a row is.
 use Rattle.std.specs.Prelude.{Bool, true, false}
 use Rattle.ba_core.specs.declared.protocols.Protocol.{Protocol}
 use Rattle.ba_core.specs.declared.protocols.Protocol.TheVariants.{Pc, Cc}

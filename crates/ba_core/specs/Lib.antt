@@ -4,4 +4,5 @@ pub mod Messages
 pub mod Numbers
 pub mod PartRows
 pub mod Texts
+pub mod Words
 pub mod formers

@@ -1,4 +1,4 @@
--- The names of notices and of states, after WS-BusinessActivity 1.2; the codes of notices and the names of
+-- Believe: the names of notices and of states, after WS-BusinessActivity 1.2; the codes of notices and the names of
 -- split states are this project's own.
 use Rattle.std.specs.Prelude.{ℕ, Bool, true, false, List, codes}
 use Rattle.ba_core.specs.declared.notices.Notice.{Notice}

@@ -1,4 +1,4 @@
--- The parts of an identifier: a counter below 2^64, and a node's number above it. The number of a message
+-- Believe: the parts of an identifier: a counter below 2^64, and a node's number above it. The number of a message
 -- that an object sends is the object's identifier with the message's code above it.
 use Rattle.std.specs.Prelude.{ℕ, ◌+◌, ◌*◌, ◌/◌, ◌%◌, ◌^◌}
 

@@ -1,5 +1,5 @@
--- The participant's side of a link: its state table, and its rules of acting and sending.
--- The tables are this project's own, after WS-BusinessActivity 1.2; docs/FORMATS.md prints them.
+-- Believe: the participant's side of a link: its state table, and its rules of acting and sending.
+-- The tables are this project's own, after WS-BusinessActivity 1.2; docs/formats/tables.md prints them.
 use Rattle.std.specs.Prelude.{Bool, true, false, Option, None, Some}
 use Rattle.ba_core.specs.Cells.{Cell, to, pc_to, stay, again, none, Mark, both, cc, is_marked}
 use Rattle.ba_core.specs.declared.protocols.Protocol.{Protocol}

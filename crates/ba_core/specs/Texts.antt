@@ -1,5 +1,5 @@
--- The texts by which lines and faults show states, codes and identifiers.
-use Rattle.std.specs.Prelude.{ℕ, List, ◌++◌, codes}
+-- Believe: the texts by which lines, notices and faults show states, codes and identifiers.
+use Rattle.std.specs.Prelude.{ℕ, List, ◌++◌, ◌≢◌, All, codes}
 use Rattle.std.specs.Fmt.{decimal}
 use Rattle.ba_core.specs.declared.codes.Code.{Code}
 use Rattle.ba_core.specs.declared.codes.Code.TheVariants as code
@@ -9,6 +9,8 @@ use Rattle.ba_core.specs.declared.states.CState.{CState}
 use Rattle.ba_core.specs.declared.states.CState.TheVariants as end
 use Rattle.ba_core.specs.declared.states.PState.{PState}
 use Rattle.ba_core.specs.declared.states.PState.TheVariants as part
+use Rattle.ba_core.specs.declared.states.StateName.{StateName}
+use Rattle.ba_core.specs.declared.states.StateName.TheVariants as state
 use Rattle.ba_core.specs.Numbers.{node_of, counter_of}
 
 abbrev pub how_text : How → List ℕ
@@ -54,6 +56,25 @@ part_text part.NotCompleting = codes "NotCompleting"
 part_text part.Exiting = codes "Exiting"
 part_text (part.Ended h) = codes "Ended/" ++ how_text h
 
+-- a state as a Status notice names it (WS-BusinessActivity 1.2, section 3.3)
+abbrev pub state_text : StateName → List ℕ
+state_text state.Active = codes "Active"
+state_text state.Completing = codes "Completing"
+state_text state.Canceling = codes "Canceling"
+state_text state.CancelingActive = codes "Canceling-Active"
+state_text state.CancelingCompleting = codes "Canceling-Completing"
+state_text state.Completed = codes "Completed"
+state_text state.Closing = codes "Closing"
+state_text state.Compensating = codes "Compensating"
+state_text state.FailingActive = codes "Failing-Active"
+state_text state.FailingCompleting = codes "Failing-Completing"
+state_text state.FailingCanceling = codes "Failing-Canceling"
+state_text state.FailingCompensating = codes "Failing-Compensating"
+state_text state.NotCompleting = codes "NotCompleting"
+state_text state.Exiting = codes "Exiting"
+state_text state.Ended = codes "Ended"
+state_text state.Other = codes "Other"
+
 abbrev pub code_text : Code → List ℕ
 code_text code.VersionMismatch = codes "VersionMismatch"
 code_text code.MustUnderstand = codes "MustUnderstand"
@@ -74,3 +95,7 @@ code_text code.Other = codes "Other"
 -- an object's name: its node's number, a dot, its counter
 abbrev pub id_text : ℕ → List ℕ
 id_text id = decimal (node_of id) ++ (codes "." ++ decimal (counter_of id))
+
+-- no dot is among the bytes
+abbrev pub HasNoDot : List ℕ → Type 0
+HasNoDot = All (λ byte. byte ≢ 46)

@@ -1,6 +1,8 @@
 //! The notices that the two sides of a link send each other, and the acts of a participant's work.
-ghost use Rattle.std.specs.Prelude.{◌≡◌};
+ghost use Rattle.std.specs.Prelude.{◌≡◌, ◌≢◌, IfSome, IfNone};
 ghost use Rattle.ba_core.specs.Messages.{notice_code, notice_name};
+ghost use Rattle.ba_core.specs.Words.{act_word};
+ghost use Rattle.ba_core.specs.declared.notices.Act.{Act};
 
 use crate::states::StateName;
 
@@ -39,6 +41,52 @@ pub enum Act {
     Fail,
     Exit,
     CannotComplete,
+}
+
+impl Act {
+    /// The word by which lines and commands name it.
+    pub fn word(self) -> &'static [u8]
+        ensures { result.now ≡ act_word self }
+    {
+        match self {
+            Act::Completed => b"completed",
+            Act::Closed => b"closed",
+            Act::Canceled => b"canceled",
+            Act::Compensated => b"compensated",
+            Act::Fail => b"fail",
+            Act::Exit => b"exit",
+            Act::CannotComplete => b"cannotcomplete",
+        }
+    }
+
+    /// The act with this word.
+    pub fn of_word(word: &[u8]) -> Option<Act>
+        ensures some { IfSome result (λ act. word.now ≡ act_word act) }
+        ensures none { IfNone result ((act : Act) → word.now ≢ act_word act) }
+    {
+        if word == b"completed".as_slice() {
+            return Some(Act::Completed);
+        }
+        if word == b"closed".as_slice() {
+            return Some(Act::Closed);
+        }
+        if word == b"canceled".as_slice() {
+            return Some(Act::Canceled);
+        }
+        if word == b"compensated".as_slice() {
+            return Some(Act::Compensated);
+        }
+        if word == b"fail".as_slice() {
+            return Some(Act::Fail);
+        }
+        if word == b"exit".as_slice() {
+            return Some(Act::Exit);
+        }
+        if word == b"cannotcomplete".as_slice() {
+            return Some(Act::CannotComplete);
+        }
+        None
+    }
 }
 
 /// How an interposed participant leaves its activity before the activity has an outcome.

@@ -1,4 +1,9 @@
 //! What a business activity agrees on: its protocol, its kind, and its verdicts.
+ghost use Rattle.std.specs.Prelude.{◌≡◌, ◌≢◌, IfSome, IfNone};
+ghost use Rattle.ba_core.specs.Words.{kind_word, protocol_word, verdict_word};
+ghost use Rattle.ba_core.specs.declared.protocols.Kind.{Kind};
+ghost use Rattle.ba_core.specs.declared.protocols.Protocol.{Protocol};
+ghost use Rattle.ba_core.specs.declared.protocols.Verdict.{Verdict};
 
 /// The protocol between a coordinator and a participant (WS-BusinessActivity 1.2, section 3).
 #[derive(Clone, Copy, Debug, PartialEq, Eq, Hash)]
@@ -7,6 +12,32 @@ pub enum Protocol {
     Pc,
     /// CoordinatorCompletion: the coordinator tells the participant to complete.
     Cc,
+}
+
+impl Protocol {
+    /// The word by which lines and commands name it.
+    pub fn word(self) -> &'static [u8]
+        ensures { result.now ≡ protocol_word self }
+    {
+        match self {
+            Protocol::Pc => b"pc",
+            Protocol::Cc => b"cc",
+        }
+    }
+
+    /// The protocol with this word.
+    pub fn of_word(word: &[u8]) -> Option<Protocol>
+        ensures some { IfSome result (λ protocol. word.now ≡ protocol_word protocol) }
+        ensures none { IfNone result ((protocol : Protocol) → word.now ≢ protocol_word protocol) }
+    {
+        if word == b"pc".as_slice() {
+            return Some(Protocol::Pc);
+        }
+        if word == b"cc".as_slice() {
+            return Some(Protocol::Cc);
+        }
+        None
+    }
 }
 
 /// The coordination type of an activity (WS-BusinessActivity 1.2, section 2).
@@ -18,6 +49,32 @@ pub enum Kind {
     Mixed,
 }
 
+impl Kind {
+    /// The word by which lines and commands name it.
+    pub fn word(self) -> &'static [u8]
+        ensures { result.now ≡ kind_word self }
+    {
+        match self {
+            Kind::Atomic => b"atomic",
+            Kind::Mixed => b"mixed",
+        }
+    }
+
+    /// The kind with this word.
+    pub fn of_word(word: &[u8]) -> Option<Kind>
+        ensures some { IfSome result (λ kind. word.now ≡ kind_word kind) }
+        ensures none { IfNone result ((kind : Kind) → word.now ≢ kind_word kind) }
+    {
+        if word == b"atomic".as_slice() {
+            return Some(Kind::Atomic);
+        }
+        if word == b"mixed".as_slice() {
+            return Some(Kind::Mixed);
+        }
+        None
+    }
+}
+
 /// What is decided for a participant's work.
 #[derive(Clone, Copy, Debug, PartialEq, Eq, Hash)]
 pub enum Verdict {
@@ -25,6 +82,32 @@ pub enum Verdict {
     Close,
     /// Work is canceled, or compensated where it was completed.
     Undo,
+}
+
+impl Verdict {
+    /// The word by which lines and commands name it.
+    pub fn word(self) -> &'static [u8]
+        ensures { result.now ≡ verdict_word self }
+    {
+        match self {
+            Verdict::Close => b"close",
+            Verdict::Undo => b"undo",
+        }
+    }
+
+    /// The verdict with this word.
+    pub fn of_word(word: &[u8]) -> Option<Verdict>
+        ensures some { IfSome result (λ verdict. word.now ≡ verdict_word verdict) }
+        ensures none { IfNone result ((verdict : Verdict) → word.now ≢ verdict_word verdict) }
+    {
+        if word == b"close".as_slice() {
+            return Some(Verdict::Close);
+        }
+        if word == b"undo".as_slice() {
+            return Some(Verdict::Undo);
+        }
+        None
+    }
 }
 
 /// One of the two sides of a link.

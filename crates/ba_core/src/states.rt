@@ -1,6 +1,8 @@
 //! The states of a coordinator's end and of a participant, and the names that they show.
-ghost use Rattle.std.specs.Prelude.{◌≡◌};
+ghost use Rattle.std.specs.Prelude.{◌≡◌, ◌≢◌, IfSome, IfNone};
 ghost use Rattle.ba_core.specs.Messages.{end_name, part_name};
+ghost use Rattle.ba_core.specs.Texts.{state_text};
+ghost use Rattle.ba_core.specs.declared.states.StateName.{StateName};
 
 use std::fmt;
 
@@ -79,6 +81,86 @@ pub enum StateName {
     Ended,
     /// A name that this project doesn't know.
     Other,
+}
+
+impl StateName {
+    /// The local name of the state in a Status notice (WS-BusinessActivity 1.2, section 3.3); `Other` where this project doesn't know it.
+    pub fn name(self) -> &'static [u8]
+        ensures { result.now ≡ state_text self }
+    {
+        match self {
+            StateName::Active => b"Active",
+            StateName::Completing => b"Completing",
+            StateName::Canceling => b"Canceling",
+            StateName::CancelingActive => b"Canceling-Active",
+            StateName::CancelingCompleting => b"Canceling-Completing",
+            StateName::Completed => b"Completed",
+            StateName::Closing => b"Closing",
+            StateName::Compensating => b"Compensating",
+            StateName::FailingActive => b"Failing-Active",
+            StateName::FailingCompleting => b"Failing-Completing",
+            StateName::FailingCanceling => b"Failing-Canceling",
+            StateName::FailingCompensating => b"Failing-Compensating",
+            StateName::NotCompleting => b"NotCompleting",
+            StateName::Exiting => b"Exiting",
+            StateName::Ended => b"Ended",
+            StateName::Other => b"Other",
+        }
+    }
+
+    /// The state with this local name, if this project knows one.
+    pub fn of_name(name: &[u8]) -> Option<StateName>
+        ensures some { IfSome result (λ state. name.now ≡ state_text state) }
+        ensures known { IfSome result (λ state. state ≢ StateName.Other) }
+        ensures none { IfNone result ((state : StateName) → state ≢ StateName.Other → name.now ≢ state_text state) }
+    {
+        if name == b"Active".as_slice() {
+            return Some(StateName::Active);
+        }
+        if name == b"Completing".as_slice() {
+            return Some(StateName::Completing);
+        }
+        if name == b"Canceling".as_slice() {
+            return Some(StateName::Canceling);
+        }
+        if name == b"Canceling-Active".as_slice() {
+            return Some(StateName::CancelingActive);
+        }
+        if name == b"Canceling-Completing".as_slice() {
+            return Some(StateName::CancelingCompleting);
+        }
+        if name == b"Completed".as_slice() {
+            return Some(StateName::Completed);
+        }
+        if name == b"Closing".as_slice() {
+            return Some(StateName::Closing);
+        }
+        if name == b"Compensating".as_slice() {
+            return Some(StateName::Compensating);
+        }
+        if name == b"Failing-Active".as_slice() {
+            return Some(StateName::FailingActive);
+        }
+        if name == b"Failing-Completing".as_slice() {
+            return Some(StateName::FailingCompleting);
+        }
+        if name == b"Failing-Canceling".as_slice() {
+            return Some(StateName::FailingCanceling);
+        }
+        if name == b"Failing-Compensating".as_slice() {
+            return Some(StateName::FailingCompensating);
+        }
+        if name == b"NotCompleting".as_slice() {
+            return Some(StateName::NotCompleting);
+        }
+        if name == b"Exiting".as_slice() {
+            return Some(StateName::Exiting);
+        }
+        if name == b"Ended".as_slice() {
+            return Some(StateName::Ended);
+        }
+        None
+    }
 }
 
 /// The name of an end's state. Each way to end is `Ended`.

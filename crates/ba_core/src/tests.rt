@@ -2,7 +2,8 @@
 //! texts are compared with their printed forms.
 
 use crate::{
-    CState, Code, How, Id, List, Notice, PState, StateName, c_name, code_of, name_of, p_name,
+    Act, CState, Code, How, Id, Kind, List, Notice, PState, Protocol, StateName, Verdict, c_name,
+    code_of, name_of, number_of, p_name,
 };
 use std::test::Fail;
 
@@ -92,4 +93,55 @@ fn names_states(rt: HostRuntime) -> Result<(), Fail> {
         "CannotRegisterParticipant"
     );
     Ok(())
+}
+
+#[test]
+fn reads_words(rt: HostRuntime) {
+    assert_eq!(rt;
+        Act::of_word(Act::Compensated.word()),
+        Some(Act::Compensated)
+    );
+    assert_eq!(rt; Act::of_word(b"failed"), None);
+    assert_eq!(rt; Protocol::of_word(Protocol::Cc.word()), Some(Protocol::Cc));
+    assert_eq!(rt; Kind::of_word(Kind::Mixed.word()), Some(Kind::Mixed));
+    assert_eq!(rt; Verdict::of_word(Verdict::Undo.word()), Some(Verdict::Undo));
+    assert_eq!(rt;
+        Code::of_name(Code::InvalidState.name()),
+        Some(Code::InvalidState)
+    );
+    assert_eq!(rt; Code::of_name(b"Other"), None);
+    assert_eq!(rt;
+        StateName::of_name(b"Failing-Compensating"),
+        Some(StateName::FailingCompensating)
+    );
+    assert_eq!(rt; StateName::Ended.name(), b"Ended".as_slice());
+}
+
+#[test]
+fn reads_numbers(rt: HostRuntime) {
+    for (digits, number) in [
+        (b"0".as_slice(), Some(0)),
+        (
+            b"18446744073709551615".as_slice(),
+            Some(18_446_744_073_709_551_615),
+        ),
+        (b"18446744073709551616".as_slice(), None),
+        (b"01".as_slice(), None),
+        (b"+1".as_slice(), None),
+        (b"".as_slice(), None),
+        (b"1a".as_slice(), None),
+    ] {
+        assert_eq!(rt; number_of(digits), number);
+    }
+    for (text, id) in [
+        (b"2.1".as_slice(), Some(Id::of(2, 1))),
+        (b"4294967295.0".as_slice(), Some(Id::of(4_294_967_295, 0))),
+        (b"4294967296.0".as_slice(), None),
+        (b"2.1.1".as_slice(), None),
+        (b"2".as_slice(), None),
+        (b".1".as_slice(), None),
+        (b"2.".as_slice(), None),
+    ] {
+        assert_eq!(rt; Id::of_text(text), id);
+    }
 }

@@ -7,7 +7,7 @@ use Rattle.ba_record.specs.Reading.{IsBytes, reading}
 use Rattle.ba_record.specs.declared.records.Record.{Record}
 use Rattle.ba_record.specs.declared.records.RecordFault.{RecordFault}
 use Rattle.ba_record.proofs.LongBytes.{told_by_front}
-use Rattle.ba_journal.specs.Blocks.{deciding, frame_front, AtHand, IsOf, Begins, BeginsFrames, Counts, RefusesShown, RefusesFile}
+use Rattle.ba_journal.specs.inside.Blocks.{deciding, frame_front, AtHand, IsOf, Begins, BeginsFrames, Counts, RefusesShown, RefusesFile}
 use Rattle.ba_journal.specs.Frames.{header, is_fresh, frame_of, fault_place, IsForeign, IsNoJournal}
 use Rattle.ba_journal.specs.Readings.{IsTail, ReadsAs}
 use Rattle.ba_journal.specs.declared.faults.JournalFault.{JournalFault}

@@ -6,7 +6,7 @@ use Rattle.std.proofs.lemmas.List.{append-nil, take_at, drop_at, take-append-dro
 use Rattle.std.proofs.lemmas.Bool.{cases_lt, lt-ltb, le-ltb}
 use Rattle.ba_ports.specs.Disk.{Torn, CutShort, written_at}
 use Rattle.ba_record.specs.declared.records.Record.{Record}
-use Rattle.ba_journal.specs.Calls.{AtRest}
+use Rattle.ba_journal.specs.Journals.{AtRest}
 use Rattle.ba_journal.specs.Frames.{header, payload_of, frame_of, Leads, Holds, StandsFor}
 use Rattle.ba_journal.specs.Readings.{IsTail, Finds}
 use Rattle.ba_journal.specs.declared.readings.Tail.{Tail}

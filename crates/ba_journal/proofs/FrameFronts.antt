@@ -6,7 +6,7 @@ use Rattle.std.proofs.lemmas.Bool.Decides.{nat_tests}
 use Rattle.std.proofs.lemmas.List.{take_at, drop_at, take_all, take-take, take-append-le, take-append-drop}
 use Rattle.ba_record.specs.Reading.{IsBytes}
 use Rattle.ba_record.proofs.Exact.{bytes_after, front_bytes}
-use Rattle.ba_journal.specs.Blocks.{deciding, frame_front, Begins, Counts}
+use Rattle.ba_journal.specs.inside.Blocks.{deciding, frame_front, Begins, Counts}
 use Rattle.ba_journal.specs.Frames.{payload_of, frame_of}
 use Rattle.ba_journal.proofs.Leading.{some_is, framed, framed_by}
 

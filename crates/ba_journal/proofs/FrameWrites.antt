@@ -2,9 +2,10 @@
 use Rattle.std.proofs.Common.{max, ◌≤◌, ◌≡◌, inl, inr, ℕ, ◌+◌, List, [], ◌∷◌, ◌++◌, length, take, drop, refl, sym, ◌∙◌, ap, subst, arith, append_assoc, length-append}
 use Rattle.std.proofs.lemmas.List.{append-nil, length-take, length-drop, take_at, drop_at, take_all, drop_all}
 use Rattle.std.proofs.lemmas.Bool.{cases_eq}
-use Rattle.ba_ports.specs.Disk.{Torn, written_at, DoneTo, Only}
+use Rattle.ba_ports.specs.Disk.{Torn, written_at, Done, NoMore, Only}
 use Rattle.ba_record.specs.declared.records.Record.{Record}
-use Rattle.ba_journal.specs.Calls.{AtRest, before_last, IsFrameOf, StandsWithOrWithout}
+use Rattle.ba_journal.specs.Journals.{AtRest, before_last, StandsWithOrWithout}
+use Rattle.ba_journal.specs.inside.Appending.{IsFrameOf}
 use Rattle.ba_journal.specs.Frames.{StandsFor}
 use Rattle.ba_journal.proofs.OneMore.{Seat, seat_of, closed_again, behind_it, another, one_more}
 
@@ -69,7 +70,7 @@ module _ (file : List ℕ) (records : List Record) (gate : ℕ) (rest : AtRest f
   pub length-after : (behind : List ℕ) → length (before_last file ++ 1 ∷ behind) ≡ gate + 1 + length behind
   length-after behind = omega (arith, size, length-append (before_last file) (1 ∷ behind))
 
-  pub stage_crash : (count : ℕ) (old new : List ℕ → Type 0) → Only file old → DoneTo (Torn (gate + 1) count) old new → (c : List ℕ) → new c → StandsFor c records
+  pub stage_crash : (count : ℕ) (old new : List ℕ → Type 0) → Only file old → NoMore (Done (Torn (gate + 1) count) old) new → (c : List ℕ) → new c → StandsFor c records
   stage_crash count old new only done c left =
       let from = done c left in
       torn_behind count c (subst (λ f. Torn (gate + 1) count f c) (only from.0 from.1) from.2)
@@ -92,7 +93,7 @@ module _ (file : List ℕ) (records : List Record) (gate : ℕ) (rest : AtRest f
         let whole : c ≡ before_last file ++ gate_is.0 ∷ behind = cut ∙ append_assoc (before_last file) torn.range behind ∙ ap (λ (l : List ℕ). before_last file ++ (l ++ behind)) gate_is.1 in
         subst (StandsWithOrWithout records last) (sym whole) (by_gate gate_is.0)
 
-    pub gate_crash : (old new : List ℕ → Type 0) → Only (file ++ behind) old → DoneTo (Torn gate 1) old new → (c : List ℕ) → new c → StandsWithOrWithout records last c
+    pub gate_crash : (old new : List ℕ → Type 0) → Only (file ++ behind) old → NoMore (Done (Torn gate 1) old) new → (c : List ℕ) → new c → StandsWithOrWithout records last c
     gate_crash old new only done c left =
         let from = done c left in
         torn_gate c (subst (λ f. Torn gate 1 f c) (only from.0 from.1) from.2)

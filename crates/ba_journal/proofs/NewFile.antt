@@ -3,7 +3,7 @@ use Rattle.std.proofs.Common.{◌≤◌, ◌<◌, ◌≡◌, inl, inr, ⊎_elim,
 use Rattle.std.proofs.lemmas.List.{append-nil, length-take, take_all}
 use Rattle.std.proofs.lemmas.Bool.{cases_eq, cases_lt, lt-ltb, le-ltb, eqb-true, ne_eqb, and_parts}
 use Rattle.ba_ports.specs.Disk.{Torn, CutShort}
-use Rattle.ba_journal.specs.Calls.{AtRest}
+use Rattle.ba_journal.specs.Journals.{AtRest}
 use Rattle.ba_journal.specs.Frames.{header, is_fresh, StandsFor}
 
 pub one_byte : (range : List ℕ) → length range ≡ 1 → (byte : ℕ) × (range ≡ byte ∷ [])

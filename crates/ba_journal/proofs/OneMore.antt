@@ -8,7 +8,7 @@ use Rattle.std.proofs.lemmas.Bool.Decides.{nat_tests}
 use Rattle.ba_record.specs.Coding.{coding, InRange}
 use Rattle.ba_record.specs.declared.records.Record.{Record}
 use Rattle.ba_record.proofs.ExactRecords.{reads_back}
-use Rattle.ba_journal.specs.Calls.{AtRest, before_last, behind_gate}
+use Rattle.ba_journal.specs.Journals.{AtRest, before_last, behind_gate}
 use Rattle.ba_journal.specs.Frames.{header, is_fresh, payload_of, frame_of, Leads, AreRecords, Holds, StandsFor}
 use Rattle.ba_journal.proofs.Sizes.{is_short}
 use Rattle.ba_journal.proofs.Leading.{some_is, framed, framed_by, leads_more, records_more}

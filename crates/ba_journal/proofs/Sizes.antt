@@ -2,8 +2,9 @@
 use Rattle.std.proofs.Common.{ℕ, ◌<◌, ◌≤◌, ◌^◌, length, Option, None, Some, refl, arith, length-append}
 use Rattle.std.specs.Int.{w64, to_le_bytes}
 use Rattle.ba_core.specs.declared.protocols.Protocol.{Protocol}
-use Rattle.ba_tree.specs.declared.endpoints.Epr.{Epr}
-use Rattle.ba_tree.specs.Endpoints.{Fits, in_u64, endpoint_length}
+use Rattle.ba_message.specs.declared.endpoints.Epr.{Epr}
+use Rattle.ba_tree.specs.Lengths.{in_u64}
+use Rattle.ba_message.specs.Endpoints.{Fits, endpoint_length}
 use Rattle.ba_record.proofs.Parts.{size_is, base_is_short}
 use Rattle.ba_record.specs.Coding.{coding, InRange, IsUpward, endpoint_coding, option_coding, upward_coding}
 use Rattle.ba_record.specs.declared.records.Record.{Record}

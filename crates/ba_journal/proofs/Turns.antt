@@ -3,7 +3,7 @@ use Rattle.std.proofs.Common.{◌≡◌, inl, inr, ⊎_elim, ℕ, Bool, true, fa
 use Rattle.ba_ports.specs.Disk.{InTurn, LeavesOnly, Only, is_counted, if_counted, counted}
 use Rattle.ba_ports.specs.declared.requests.Call.{Call}
 use Rattle.ba_ports.specs.declared.requests.Request.{Request}
-use Rattle.ba_journal.specs.Openings.{MayHaveChanged}
+use Rattle.ba_journal.specs.inside.Syncing.{MayHaveChanged}
 
 -- requests that all went well, and then others
 pub in_turn_on : (first second : List Request) (failed : Bool) (calls later : List Call)

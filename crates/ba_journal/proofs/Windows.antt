@@ -4,7 +4,7 @@ use Rattle.std.proofs.lemmas.List.{take_at, take-append-le, drop-drop, drop-take
 use Rattle.std.proofs.Math.Seq.{take-append-add}
 use borrow.Rule.Slice.PartMut.{put_mid, post_of}
 use Rattle.ba_ports.specs.Disk.{Reads}
-use Rattle.ba_journal.specs.Blocks.{AtHand, IsOf}
+use Rattle.ba_journal.specs.inside.Blocks.{AtHand, IsOf}
 
 -- what a read puts at a place of the room stands behind what was there
 pub read_more : (file room before after : List ℕ) (place done count k : ℕ) → take done room ≡ take done (drop place file) → done ≤ length room → Reads file (place + done) count before after

@@ -1,10 +1,6 @@
-pub mod Answers
-pub mod Blocks
-pub mod Calls
 pub mod Frames
-pub mod JournalValue
+pub mod Journals
 pub mod Loads
-pub mod Looks
-pub mod Openings
 pub mod Readings
 pub mod Scans
+pub mod inside

@@ -1,12 +1,12 @@
--- What a scan of a file answers.
+-- Believe: what a scan of a file answers.
 use Rattle.std.specs.Prelude.{◌≡◌, ℕ, ◌+◌, ◌-◌, true, List, length, Err}
 use Rattle.ba_record.specs.declared.records.RecordFault.{RecordFault}
 use Rattle.ba_record.specs.Reading.{reading}
 use Rattle.ba_journal.specs.Frames.{is_fresh, Holds, IsNoJournal, fault_place}
-use Rattle.ba_journal.specs.declared.listings.Scan.{Scan}
-use Rattle.ba_journal.specs.declared.listings.Scan.TheVariants.{Fresh, Found}
-use Rattle.ba_journal.specs.declared.listings.ScanFault.{ScanFault}
-use Rattle.ba_journal.specs.declared.listings.ScanFault.TheVariants as fault
+use Rattle.ba_journal.specs.declared.scans.Scan.{Scan}
+use Rattle.ba_journal.specs.declared.scans.Scan.TheVariants.{Fresh, Found}
+use Rattle.ba_journal.specs.declared.scans.ScanFault.{ScanFault}
+use Rattle.ba_journal.specs.declared.scans.ScanFault.TheVariants as fault
 
 -- the file holds this
 abbrev pub Scans : List ℕ → Scan → Type 0

@@ -1,11 +1,12 @@
 //! Appends to the smallest journal in memory, where every call goes well, fails, or meets a stop.
 
 ghost use Rattle.std.specs.Prelude.{◌≡◌, length, IfOk};
-ghost use Rattle.ba_ports.specs.DiskValue.{bytes_of};
+ghost use Rattle.ba_memory.specs.DiskValue.{bytes_of};
 
 use crate::{Journal, JournalFault, Scan, ScanFault, scan};
 use ba_core::List;
-use ba_ports::{Disk, Faulty, Image, MemDisk};
+use ba_memory::MemDisk;
+use ba_ports::{Disk, Faulty, Image};
 use ba_record::Record;
 use std::alloc::Global;
 use std::test::Fail;

@@ -1,6 +1,7 @@
 //! Puts a frame at the end of a journal's file, so that a stop at any moment leaves all of it or nothing.
 ghost use Rattle.std.specs.Prelude.{◌≡◌, ◌+◌, ◌<◌, ◌^◌, ◌++◌, [], ◌∷◌, List, length, IsTrue, OnOk, is_err};
-ghost use Rattle.ba_journal.specs.Calls.{appending, IsFrameOf, IsSettled, StandsWithOrWithout};
+ghost use Rattle.ba_journal.specs.Journals.{appending, IsSettled, StandsWithOrWithout};
+ghost use Rattle.ba_journal.specs.inside.Appending.{IsFrameOf};
 ghost use Rattle.ba_ports.specs.Causes.{HasCause};
 ghost use Rattle.ba_ports.specs.Disk.{InTurn, LeavesOnly};
 ghost use Rattle.ba_ports.specs.declared.requests.Call.{Call};

@@ -1,7 +1,7 @@
 //! A file's bytes, read block by block into a room of one size, whatever the file's length.
 ghost use Rattle.std.specs.Prelude.{◌≡◌, ◌+◌, ◌-◌, ◌<◌, ◌≤◌, ◌^◌, [], min, length, take, drop, slice_range, IfOk, IfErr, OnOk, IsTrue, ◌↔◌};
-ghost use Rattle.ba_journal.specs.Blocks.{AtHand, IsOf, frame_front};
-ghost use Rattle.ba_journal.specs.Looks.{Looked};
+ghost use Rattle.ba_journal.specs.inside.Blocks.{AtHand, IsOf, frame_front};
+ghost use Rattle.ba_journal.specs.inside.Looks.{BreaksOff, Looked};
 ghost use Rattle.ba_ports.specs.Causes.{Rose};
 
 use crate::looks::look_at_all;
@@ -31,7 +31,7 @@ pub struct Blocks {
 
 impl Model for Blocks {
     ghost use Rattle.std.specs.Prelude.{length, slice_range};
-    ghost use Rattle.ba_journal.specs.Blocks.{AtHand, LieWithin};
+    ghost use Rattle.ba_journal.specs.inside.Blocks.{AtHand, LieWithin};
 
     ghost Value = { AtHand };
 
@@ -100,6 +100,7 @@ impl Blocks {
         ensures file { IsTrue (D.follows disk.old) → IsOf (D.seen disk.old) self.old → OnOk result (IsOf (D.seen disk.old) self.new) }
         ensures looked { Looked D.follows D.seen D.may_leave D.later D.left_between D.driven D.faults disk.old disk.new }
         ensures cause { IfErr result (λ why. Rose (D.faults disk.old) (D.faults disk.new)) }
+        ensures broke_off { IfErr result (λ why. BreaksOff D.driven disk.old disk.new) }
     {
         if self.has_front() {
             return Ok(());
@@ -124,6 +125,7 @@ impl Blocks {
         ensures file { IsTrue (D.follows disk.old) → IsOf (D.seen disk.old) self.old → OnOk result (IsOf (D.seen disk.old) self.new) }
         ensures looked { Looked D.follows D.seen D.may_leave D.later D.left_between D.driven D.faults disk.old disk.new }
         ensures cause { IfErr result (λ why. Rose (D.faults disk.old) (D.faults disk.new)) }
+        ensures broke_off { IfErr result (λ why. BreaksOff D.driven disk.old disk.new) }
     {
         let (at, end) = (self.at, self.end);
         let kept = end - at;
@@ -167,6 +169,7 @@ fn read_behind<D: Disk>(
         → IfOk result (λ n. (n ≡ most) × (take n (drop (end - at) room.new) ≡ take n (drop place (D.seen disk.old)))) }
     ensures looked { Looked D.follows D.seen D.may_leave D.later D.left_between D.driven D.faults disk.old disk.new }
     ensures cause { IfErr result (λ why. Rose (D.faults disk.old) (D.faults disk.new)) }
+    ensures broke_off { IfErr result (λ why. BreaksOff D.driven disk.old disk.new) }
 {
     compact(room, at, end);
     read_into(disk, place, room, end - at, most)
@@ -197,6 +200,7 @@ fn read_into<D: Disk>(
         → IfOk result (λ n. (n ≡ most) × (take n (drop kept room.new) ≡ take n (drop place (D.seen disk.old)))) }
     ensures looked { Looked D.follows D.seen D.may_leave D.later D.left_between D.driven D.faults disk.old disk.new }
     ensures cause { IfErr result (λ why. Rose (D.faults disk.old) (D.faults disk.new)) }
+    ensures broke_off { IfErr result (λ why. BreaksOff D.driven disk.old disk.new) }
 {
     look_at_all(disk, place, &mut room[kept..kept + most])
 }

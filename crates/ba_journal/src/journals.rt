@@ -1,8 +1,10 @@
 //! The journal of a node on its disk.
-ghost use Rattle.std.specs.Prelude.{◌≡◌, ◌≢◌, ◌↔◌, ◌+◌, ◌<◌, ◌≤◌, ◌++◌, [], ◌∷◌, ℕ, List, None, Some, Err, length, max, IsTrue, IfErr, OnOk, OnErr};
-ghost use Rattle.ba_journal.specs.Answers.{GoesPast, Asked};
-ghost use Rattle.ba_journal.specs.Calls.{behind_gate, IsSettled, StandsWithOrWithout};
+ghost use Rattle.std.specs.Prelude.{◌≡◌, ◌≢◌, ◌↔◌, ◌+◌, ◌≤◌, ◌++◌, [], ◌∷◌, ℕ, List as Items, None, Some, Err, length, max, IsTrue, IfOk, IfErr, OnOk, OnErr};
+ghost use Rattle.ba_journal.specs.Journals.{Asked, GoesPast, IsSettled, StandsWithOrWithout, behind_gate};
 ghost use Rattle.ba_journal.specs.declared.faults.JournalFault.TheVariants as fault;
+ghost use Rattle.ba_journal.specs.Frames.{IsNoJournal, StandsFor};
+ghost use Rattle.ba_journal.specs.Loads.{IsOpenedAs, Loaded, MayStandSince, answer_of, disk_of};
+ghost use Rattle.ba_journal.specs.Readings.{ReadsAs};
 ghost use Rattle.ba_ports.specs.Causes.{Rose};
 ghost use Rattle.ba_ports.specs.Disk.{LeavesOnly, fail, stop, nothing};
 ghost use Rattle.ba_ports.specs.declared.requests.Call.{Call};
@@ -10,8 +12,9 @@ ghost use Rattle.ba_record.specs.Coding.{coding, InRange};
 
 use crate::appending::put_frame;
 use crate::faults::JournalFault;
+use crate::loads::open_file;
 use crate::payloads::put_behind_gate;
-use ba_core::Memory;
+use ba_core::{List, Memory};
 use ba_ports::{Disk, Faulty, Image};
 use ba_record::{Record, Room, size_of};
 use std::alloc::Global;
@@ -32,7 +35,7 @@ pub struct Journal<D> {
 
 impl<D> Model for Journal<D> {
     ghost use Rattle.std.specs.Prelude.{◌-◌};
-    ghost use Rattle.ba_journal.specs.JournalValue.{JournalValue, journal_code};
+    ghost use Rattle.ba_journal.specs.Journals.{JournalValue, journal_code};
 
     ghost Value = { JournalValue D };
 
@@ -42,6 +45,40 @@ impl<D> Model for Journal<D> {
 }
 
 impl<D: Disk> Journal<D> {
+    /// The journal on the disk, with its records. What the disk holds is made durable first; then a fresh file is made a
+    /// journal without records, or an end that broke off is repaired. An error gives the disk back: Memory and
+    /// NotAJournal leave the file as it was, and NotAJournal tells the place, in bytes, where that shows. A crash during
+    /// the call leaves what one before it might have left, or a file that stands for the same records as one of those.
+    pub fn load(alloc: Global, disk: D) -> Result<(Journal<D>, List<Record>), (D, JournalFault)>
+
+        // What is said of content, over a disk that follows its model.
+        ensures records { IsTrue (D.follows disk) → IfOk result (λ loaded. StandsFor (D.seen disk) loaded.1) }
+        ensures settled { IsTrue (D.follows disk) → IfOk result (λ loaded.
+            IsSettled D.seen D.may_leave loaded.0.disk loaded.0.gate loaded.1) }
+        ensures refused { IsTrue (D.follows disk) → IfErr result (λ refused. (place : ℕ) →
+            refused.1 ≡ fault.NotAJournal place → IsNoJournal (D.seen disk) place) }
+        ensures any_moment { IsTrue (D.follows disk) →
+            LeavesOnly D.later D.left_between disk (disk_of result) (MayStandSince (D.may_leave disk)) }
+
+        // Which calls of the disk were made, and what they leave of it.
+        ensures calls { (calls : Items Call) × D.driven disk calls (disk_of result)
+            × Loaded (λ found. IsTrue (D.follows disk) → ReadsAs (D.seen disk) found) (λ loaded. IsOpenedAs loaded.0.gate loaded.1) (answer_of result) calls }
+        ensures follows { D.follows (disk_of result) ≡ D.follows disk }
+        ensures cause { IfErr result (λ refused. refused.1 ≡ fault.Disk → Rose (D.faults disk) (D.faults refused.0)) }
+        ensures faults { D.faults disk ≤ D.faults (disk_of result) }
+
+        // What is answered.
+        ensures opened { IfOk result (λ loaded. loaded.0.closed ≡ None) }
+        ensures not_full { IfErr result (λ refused. refused.1 ≢ fault.Full) }
+        ensures not_closed { IfErr result (λ refused. (count : ℕ) → refused.1 ≢ fault.Closed count) }
+    {
+        let mut held = disk;
+        match open_file(alloc, &mut held) {
+            Ok((gate, records)) => Ok((Journal::resting(alloc, held, gate), records)),
+            Err(fault) => Err((held, fault)),
+        }
+    }
+
     /// The journal that the disk holds already. Its last gate stands at this place, in bytes, and is the file's
     /// last byte.
     pub fn resting(alloc: Global, disk: D, gate: u64) -> Journal<D>
@@ -71,35 +108,43 @@ impl<D: Disk> Journal<D> {
         }
     }
 
-    /// Puts a record last, which takes no memory. When this is Ok, the record outlives every crash; a crash during
+    /// Appends a record, which takes no memory. When this is Ok, the record outlives every crash; a crash during
     /// the call leaves the journal with it or without it. Full comes exactly where the file would grow too long, and
     /// Closed exactly after Disk. Only Ok and Disk change anything.
     pub fn append(&mut self, r: &Record) -> Result<(), JournalFault>
         requires in_range { InRange r.now }
         requires spare { length (coding r.now) ≤ self.old.spare }
         requires place { IsTrue (D.follows self.old.disk) → self.old.closed ≡ None → self.old.gate + 1 ≡ length (D.seen self.old.disk) }
-        ensures acknowledged { OnOk result (IsTrue (D.follows self.old.disk) → (records : List Record) →
+
+        // What is said of content, over a disk that follows its model.
+        ensures acknowledged { OnOk result (IsTrue (D.follows self.old.disk) → (records : Items Record) →
             IsSettled D.seen D.may_leave self.old.disk self.old.gate records
             → IsSettled D.seen D.may_leave self.new.disk self.new.gate (records ++ r.now ∷ [])) }
         ensures place { OnOk result (IsTrue (D.follows self.old.disk) → self.new.gate + 1 ≡ length (D.seen self.new.disk)) }
-        ensures any_moment { IsTrue (D.follows self.old.disk) → (records : List Record) →
+        ensures any_moment { IsTrue (D.follows self.old.disk) → (records : Items Record) →
             IsSettled D.seen D.may_leave self.old.disk self.old.gate records
             → LeavesOnly D.later D.left_between self.old.disk self.new.disk (StandsWithOrWithout records r.now) }
-        ensures calls { (calls : List Call) × D.driven self.old.disk calls self.new.disk
+
+        // Which calls of the disk were made, and what they leave of it.
+        ensures calls { (calls : Items Call) × D.driven self.old.disk calls self.new.disk
             × Asked self.old.gate (behind_gate (coding r.now)) result calls }
         ensures follows { D.follows self.new.disk ≡ D.follows self.old.disk }
-        ensures full { (result ≡ Err fault.Full) ↔ ((self.old.closed ≡ None) × GoesPast self.old.gate (length (coding r.now))) }
-        ensures closed { (count : ℕ) → (result ≡ Err (fault.Closed count)) ↔ (self.old.closed ≡ Some count) }
-        ensures closes { (result ≡ Err fault.Disk) → self.new.closed ≡ Some (D.faults self.new.disk) }
-        ensures stays_open { OnOk result (self.new.closed ≡ None) }
-        ensures grows { OnOk result (self.new.gate ≡ self.old.gate + (length (coding r.now) + 5)) }
-        ensures stays { OnErr result (self.new.gate ≡ self.old.gate) }
-        ensures no_memory { result ≢ Err fault.Memory }
-        ensures spare { self.new.spare ≡ self.old.spare }
-        ensures unchanged { IfErr result (λ why. why ≢ fault.Disk → self.new ≡ self.old) }
-        ensures no_reading { (place : ℕ) → result ≢ Err (fault.NotAJournal place) }
         ensures cause { (result ≡ Err fault.Disk) → Rose (D.faults self.old.disk) (D.faults self.new.disk) }
         ensures faults { D.faults self.old.disk ≤ D.faults self.new.disk }
+
+        // When each error comes.
+        ensures full { (result ≡ Err fault.Full) ↔ ((self.old.closed ≡ None) × GoesPast self.old.gate (length (coding r.now))) }
+        ensures closed { (count : ℕ) → (result ≡ Err (fault.Closed count)) ↔ (self.old.closed ≡ Some count) }
+        ensures no_memory { result ≢ Err fault.Memory }
+        ensures no_reading { (place : ℕ) → result ≢ Err (fault.NotAJournal place) }
+
+        // What becomes of the journal.
+        ensures grows { OnOk result (self.new.gate ≡ self.old.gate + (length (coding r.now) + 5)) }
+        ensures stays_open { OnOk result (self.new.closed ≡ None) }
+        ensures closes { (result ≡ Err fault.Disk) → self.new.closed ≡ Some (D.faults self.new.disk) }
+        ensures stays { OnErr result (self.new.gate ≡ self.old.gate) }
+        ensures spare { self.new.spare ≡ self.old.spare }
+        ensures unchanged { IfErr result (λ why. why ≢ fault.Disk → self.new ≡ self.old) }
     {
         if let Some(count) = self.closed {
             return Err(JournalFault::Closed(count));
@@ -119,6 +164,13 @@ impl<D: Disk> Journal<D> {
                 Err(JournalFault::Disk)
             }
         }
+    }
+
+    /// The disk's count of failures when an append answered Disk; since then each is refused.
+    pub fn closed(&self) -> Option<u64>
+        ensures { result ≡ self.now.closed }
+    {
+        self.closed
     }
 
     /// How often its disk has failed.

@@ -6,25 +6,21 @@ mod blocks;
 mod faults;
 mod frames;
 mod journals;
-mod laws;
-mod listings;
-mod loading;
+pub mod laws;
+mod loads;
 mod looks;
 mod making;
-mod one_meaning;
 mod payloads;
-mod reading;
 mod readings;
 mod repairing;
 mod scanning;
+mod scans;
 mod syncing;
 
 pub use faults::JournalFault;
 pub use journals::{GREATEST_LENGTH, Journal};
-pub use laws::one_more_frame;
-pub use listings::{Scan, ScanFault};
-pub use one_meaning::{every_file_is_read, files_mean_one_thing};
 pub use scanning::scan;
+pub use scans::{Scan, ScanFault};
 
 #[cfg(test)]
 mod append_tests;

@@ -4,8 +4,10 @@ ghost use Rattle.std.specs.Prelude.{◌≡◌, ◌+◌, ◌≤◌, length, None,
 
 use crate::Journal;
 use ba_core::Memory;
-use ba_ports::{Disk, Faulty, FileDisk, Image, MemDisk};
+use ba_memory::MemDisk;
+use ba_ports::{Disk, Faulty, Image};
 use ba_record::Record;
+use ba_system::FileDisk;
 use std::alloc::Global;
 use std::fs::{File, OpenOptions};
 use std::test::Fail;

@@ -2,7 +2,8 @@
 
 use crate::{Journal, JournalFault};
 use ba_core::List;
-use ba_ports::{Faulty, Image, MemDisk};
+use ba_memory::MemDisk;
+use ba_ports::{Faulty, Image};
 use std::alloc::Global;
 use std::process::Abort;
 use std::test::Fail;

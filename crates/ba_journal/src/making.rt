@@ -1,8 +1,8 @@
 //! Makes a journal in a file, so that a stop at any moment leaves a file that stands for no records.
 ghost use Rattle.std.specs.Prelude.{◌≡◌, true, [], List, IsTrue, OnOk, is_err};
-ghost use Rattle.ba_journal.specs.Calls.{IsSettled};
+ghost use Rattle.ba_journal.specs.Journals.{IsSettled};
 ghost use Rattle.ba_journal.specs.Frames.{is_fresh, StandsFor};
-ghost use Rattle.ba_journal.specs.Openings.{making};
+ghost use Rattle.ba_journal.specs.Loads.{making};
 ghost use Rattle.ba_ports.specs.Causes.{HasCause};
 ghost use Rattle.ba_ports.specs.Disk.{InTurn, LeavesOnly, Only};
 ghost use Rattle.ba_ports.specs.declared.requests.Call.{Call};

@@ -1,6 +1,6 @@
 //! What is put behind the last gate of a journal's file.
 ghost use Rattle.std.specs.Prelude.{◌≡◌, ◌+◌, ◌≤◌, length};
-ghost use Rattle.ba_journal.specs.Calls.{behind_gate};
+ghost use Rattle.ba_journal.specs.Journals.{behind_gate};
 ghost use Rattle.ba_record.specs.Coding.{coding, InRange};
 
 use ba_record::{Record, Room, put_in};

@@ -1,10 +1,10 @@
 //! Files on a disk in memory, and what a load finds in them.
 
 use crate::JournalFault;
-use crate::reading::read_file;
-use crate::readings::{Reading, Tail};
+use crate::readings::{Reading, Tail, read_file};
 use ba_core::{List, Octets};
-use ba_ports::{Disk, Faulty, Image, MemDisk};
+use ba_memory::MemDisk;
+use ba_ports::{Disk, Faulty, Image};
 use std::alloc::Global;
 use std::process::Abort;
 use std::test::Fail;

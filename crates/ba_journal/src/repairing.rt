@@ -1,8 +1,8 @@
 //! Repairs the end of a journal's file, so that a stop at any moment leaves a file that stands for the same records.
 ghost use Rattle.std.specs.Prelude.{◌≡◌, ◌+◌, ◌<◌, ◌≤◌, ◌^◌, List, length, IsTrue, OnOk, is_err};
-ghost use Rattle.ba_journal.specs.Calls.{IsSettled};
+ghost use Rattle.ba_journal.specs.Journals.{IsSettled};
 ghost use Rattle.ba_journal.specs.Frames.{StandsFor};
-ghost use Rattle.ba_journal.specs.Openings.{repairing};
+ghost use Rattle.ba_journal.specs.Loads.{repairing};
 ghost use Rattle.ba_journal.specs.Readings.{Finds};
 ghost use Rattle.ba_ports.specs.Causes.{HasCause};
 ghost use Rattle.ba_ports.specs.Disk.{InTurn, LeavesOnly, Only};

@@ -5,7 +5,7 @@ ghost use Rattle.ba_record.specs.Reading.{reading};
 ghost use Rattle.ba_record.specs.declared.records.Record.{Record};
 
 use crate::frames::{HEADER, foreign_at, is_fresh, next_frame};
-use crate::listings::{Scan, ScanFault};
+use crate::scans::{Scan, ScanFault};
 use ba_core::List;
 use ba_record::{Record, RecordFault, get};
 use std::alloc::Global;

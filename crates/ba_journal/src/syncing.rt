@@ -1,6 +1,6 @@
 //! Changes of a file that outlive every crash once they are Ok.
 ghost use Rattle.std.specs.Prelude.{◌≡◌, ◌≤◌, [], ◌∷◌, List, length, take, IsTrue, OnOk, is_err};
-ghost use Rattle.ba_journal.specs.Openings.{MayHaveChanged};
+ghost use Rattle.ba_journal.specs.inside.Syncing.{MayHaveChanged};
 ghost use Rattle.ba_ports.specs.Causes.{HasCause};
 ghost use Rattle.ba_ports.specs.Disk.{CutShort, InTurn, LeavesOnly, Only, Torn, written_at};
 ghost use Rattle.ba_ports.specs.declared.requests.Call.{Call};

@@ -26,7 +26,8 @@ where_asked true test x h e = h
 where_asked false test x h e = cc
 
 -- what holds of each in a list holds of the one at this place
-pub at_place : {X : Type 0} (test : X → Bool) (xs : List X) (k : ℕ) (x : X) → slice_get xs k ≡ Some x → list_all test xs ≡ true → test x ≡ true
+pub at_place : {X : Type 0} (test : X → Bool) (xs : List X) (k : ℕ) (x : X) → slice_get xs k ≡ Some x → list_all test xs ≡ true
+    → test x ≡ true
 at_place test [] k x e h = cc
 at_place test (y ∷ xs) zero x e h = let same : y ≡ x = cc in subst (λ z. test z ≡ true) same (and_parts (test y) (list_all test xs) h).0
 at_place test (y ∷ xs) (suc k) x e h = at_place test xs k x e (and_parts (test y) (list_all test xs) h).1
@@ -59,7 +60,8 @@ if_possible test l = only_if (is_possible_pair l) test l
 
 -- a test at each value of what isn't given: sealed or not, the participant's state, the verdict, the end
 abbrev pub each_flag : (LinkState → Bool) → Protocol → Option End → PState → Bool
-each_flag test protocol e p = list_all (λ sealed. if_possible test (record { protocol = protocol; end = e; part = p; sealed = sealed })) flags
+each_flag test protocol e p =
+    list_all (λ sealed. if_possible test (record { protocol = protocol; end = e; part = p; sealed = sealed })) flags
 
 abbrev pub each_part : (LinkState → Bool) → Protocol → Option End → Bool
 each_part test protocol e = list_all (each_flag test protocol e) parts
@@ -75,28 +77,28 @@ abbrev pub everywhere : (LinkState → Bool) → Bool
 everywhere test = list_all (λ protocol. each_end (λ e. only_if (verdict_fits e) (each_part test protocol) e)) protocols
 
 -- a test that all of a list pass is passed by any value, since it stands in the list
-protocol_passes : (test : Protocol → Bool) → list_all test protocols ≡ true → (protocol : Protocol) → test protocol ≡ true
+pub protocol_passes : (test : Protocol → Bool) → list_all test protocols ≡ true → (protocol : Protocol) → test protocol ≡ true
 protocol_passes test h Pc = at_place test protocols 0 Pc refl h
 protocol_passes test h Cc = at_place test protocols 1 Cc refl h
 
-flag_passes : (test : Bool → Bool) → list_all test flags ≡ true → (b : Bool) → test b ≡ true
+pub flag_passes : (test : Bool → Bool) → list_all test flags ≡ true → (b : Bool) → test b ≡ true
 flag_passes test h false = at_place test flags 0 false refl h
 flag_passes test h true = at_place test flags 1 true refl h
 
-verdict_passes : (test : Option Verdict → Bool) → list_all test verdicts ≡ true → (v : Option Verdict) → test v ≡ true
+pub verdict_passes : (test : Option Verdict → Bool) → list_all test verdicts ≡ true → (v : Option Verdict) → test v ≡ true
 verdict_passes test h None = at_place test verdicts 0 None refl h
 verdict_passes test h (Some Close) = at_place test verdicts 1 (Some Close) refl h
 verdict_passes test h (Some Undo) = at_place test verdicts 2 (Some Undo) refl h
 
-state_passes : (test : CState → Bool) → list_all test ends ≡ true → (s : CState) → test s ≡ true
+pub state_passes : (test : CState → Bool) → list_all test ends ≡ true → (s : CState) → test s ≡ true
 state_passes test h (end.Ended Canceled) = at_place test ends 14 (end.Ended Canceled) refl h
 state_passes test h s = at_place test ends (end_number s) s refl h
 
-part_passes : (test : PState → Bool) → list_all test parts ≡ true → (p : PState) → test p ≡ true
+pub part_passes : (test : PState → Bool) → list_all test parts ≡ true → (p : PState) → test p ≡ true
 part_passes test h (part.Ended Canceled) = at_place test parts 13 (part.Ended Canceled) refl h
 part_passes test h p = at_place test parts (part_number p) p refl h
 
-end_passes : (test : Option End → Bool) → each_end test ≡ true → (e : Option End) → test e ≡ true
+pub end_passes : (test : Option End → Bool) → each_end test ≡ true → (e : Option End) → test e ≡ true
 end_passes test h None = (and_parts (test None) (list_all (each_verdict test) ends) h).0
 end_passes test h (Some e) =
     let by_state = state_passes (each_verdict test) (and_parts (test None) (list_all (each_verdict test) ends) h).1 e.state in

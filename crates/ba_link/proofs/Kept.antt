@@ -17,17 +17,19 @@ use Rattle.ba_core.specs.declared.rows.PRow.TheVariants as prow
 use Rattle.ba_core.specs.declared.states.PState.{PState}
 use Rattle.ba_core.specs.declared.states.PState.TheVariants as part
 use Rattle.ba_link.specs.Fits.{message_fits, MessageFits, LinkFits, HasPartRow, HasEndRow}
-use Rattle.ba_link.specs.Link.{End, LinkState, Link, LinkStep, Message, register, registered, refused_for_good, refused_for_now, to_part, to_end, heard_by, moved}
+use Rattle.ba_link.specs.Link.{End, LinkState, Link, LinkStep, Message, register, registered, refused_for_good, refused_for_now, to_part, to_end, heard_by, moved_link}
 use Rattle.ba_link.specs.Pairs.{is_possible_pair, verdict_fits}
 use Rattle.ba_link.proofs.Everywhere.{where_asked, at_place, passes}
 use Rattle.ba_link.proofs.Table.{messages, still_fits, fits_if_any, outcome_fits, keeps, each_move_keeps, is_part_row, is_end_row, has_end_row, part_takes, part_takes_each, end_takes, end_takes_each}
 
 -- a message that was sent fits
 pub sent_fits : (link : Link) (m : Message) → LinkFits link → Contains link.sent m → MessageFits link.state m
-sent_fits link m fits sent = All-contains (MessageFits link.state) link.sent m (All-from_recursion (MessageFits link.state) link.sent fits.messages) sent
+sent_fits link m fits sent =
+    All-contains (MessageFits link.state) link.sent m (All-from_recursion (MessageFits link.state) link.sent fits.messages) sent
 
 -- what a move hears was sent, so it fits
-heard_fits : (link : Link) (heard : Option Message) → LinkFits link → IfSome heard (Contains link.sent) → fits_if_any link.state heard ≡ true
+heard_fits : (link : Link) (heard : Option Message) → LinkFits link → IfSome heard (Contains link.sent)
+    → fits_if_any link.state heard ≡ true
 heard_fits link None fits sent = refl
 heard_fits link (Some m) fits sent = sent_fits link m fits sent
 
@@ -41,11 +43,13 @@ message_number (to_part n) = 3 + notice_code n
 message_number (to_end n) = 18 + notice_code n
 
 -- any message that fitted still fits
-each_still_fits : (before after : LinkState) → list_all (still_fits before after) messages ≡ true → (m : Message) → MessageFits before m → MessageFits after m
+each_still_fits : (before after : LinkState) → list_all (still_fits before after) messages ≡ true → (m : Message) → MessageFits before m
+    → MessageFits after m
 each_still_fits before after h (to_part (notice.Status name)) fits = refl
 each_still_fits before after h (to_end (notice.Status name)) fits = refl
 each_still_fits before after h m fits =
-    where_asked (message_fits before m) (message_fits after) m (at_place (still_fits before after) messages (message_number m) m refl h) fits
+    where_asked (message_fits before m) (message_fits after) m
+    (at_place (still_fits before after) messages (message_number m) m refl h) fits
 
 -- the message that joins what was sent fits
 joined_fits : (l : LinkState) (joined : Bool) (message : Option Message) → fits_if_any l message ≡ true
@@ -67,13 +71,19 @@ pub links_stay_possible : (before after : Link) → LinkStep before after → Li
 links_stay_possible before after step fits =
     let kept = passes (keeps step.move) (each_move_keeps step.move) before.state fits.pair fits.verdict in
     let heard = heard_fits before (heard_by step.move) fits step.heard in
-    let led = where_asked (fits_if_any before.state (heard_by step.move)) (λ l. outcome_fits l (moved l step.move)) before.state kept heard in
+    let led =
+    where_asked (fits_if_any before.state (heard_by step.move))
+    (λ l. outcome_fits l (moved_link l step.move)) before.state kept heard in
     let outcome : outcome_fits before.state (Some (after.state, step.message)) ≡ true = rw step.moves at led in
-    let each = and_four_parts (is_possible_pair after.state) (verdict_fits after.state.end) (list_all (still_fits before.state after.state) messages) (fits_if_any after.state step.message) outcome in
+    let each =
+    and_four_parts (is_possible_pair after.state) (verdict_fits after.state.end)
+    (list_all (still_fits before.state after.state) messages) (fits_if_any after.state step.message) outcome in
     let fit_before = MessageFits before.state in
     let fit_after = MessageFits after.state in
     let joining : List Message = if step.joined then option_to_list step.message else [] in
-    let old = All-weaker fit_before fit_after (each_still_fits before.state after.state each.2) before.sent (All-from_recursion fit_before before.sent fits.messages) in
+    let old =
+    All-weaker fit_before fit_after (each_still_fits before.state after.state each.2) before.sent
+    (All-from_recursion fit_before before.sent fits.messages) in
     let new = All-from_recursion fit_after joining (joined_fits after.state step.joined step.message each.3) in
     record {
       pair = each.0;
@@ -104,7 +114,8 @@ part_in_place link n fits sent moves enrolled =
     let asked = and_from (is_column n) (message_fits link.state (to_part n)) moves (sent_fits link (to_part n) fits sent) in
     let row = part_row link.state.protocol link.state.part n in
     part_row_there link.state.part row
-    (where_asked (is_column n && message_fits link.state (to_part n)) (λ l. is_part_row l.part (part_row l.protocol l.part n)) link.state passed asked) enrolled
+    (where_asked (is_column n && message_fits link.state (to_part n))
+    (λ l. is_part_row l.part (part_row l.protocol l.part n)) link.state passed asked) enrolled
 
 -- a notice that was sent to the end has a row there
 pub end_in_place : (link : Link) (n : Notice) → LinkFits link → Contains link.sent (to_end n)

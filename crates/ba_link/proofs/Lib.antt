@@ -1,3 +1,4 @@
-mod Everywhere
+pub mod Begins
+pub mod Everywhere
 pub mod Kept
-mod Table
+pub mod Table

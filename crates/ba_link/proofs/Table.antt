@@ -17,7 +17,7 @@ use Rattle.ba_core.specs.declared.rows.PRow.TheVariants as prow
 use Rattle.ba_core.specs.declared.states.PState.{PState}
 use Rattle.ba_core.specs.declared.states.PState.TheVariants as part
 use Rattle.ba_link.specs.Fits.{message_fits}
-use Rattle.ba_link.specs.Link.{End, LinkState, Message, register, registered, refused_for_good, refused_for_now, to_part, to_end, Move, part_receives, end_receives, chooses, acts, heard_by, Moved, moved}
+use Rattle.ba_link.specs.Link.{End, LinkState, Message, register, registered, refused_for_good, refused_for_now, to_part, to_end, Move, part_receives, end_receives, chooses, acts, heard_by, Moved, moved_link}
 use Rattle.ba_link.specs.Pairs.{is_possible_pair, verdict_fits}
 use Rattle.ba_link.proofs.Everywhere.{only_if, everywhere}
 
@@ -47,7 +47,7 @@ outcome_fits before (Some after) =
 
 -- a move that hears what fits leads to what fits
 abbrev pub keeps : Move → LinkState → Bool
-keeps move l = only_if (fits_if_any l (heard_by move)) (λ from. outcome_fits from (moved from move)) l
+keeps move l = only_if (fits_if_any l (heard_by move)) (λ from. outcome_fits from (moved_link from move)) l
 
 -- computed, a case for each move and notice
 pub each_move_keeps : (move : Move) → everywhere (keeps move) ≡ true

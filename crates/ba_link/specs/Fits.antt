@@ -1,4 +1,4 @@
--- What fits a link: the states of its sides, the verdict of its end, and what each message that was ever
+-- Believe: what fits a link: the states of its sides, the verdict of its end, and what each message that was ever
 -- sent on it says of them now.
 use Rattle.std.specs.Prelude.{◌≡◌, ◌≢◌, Bool, true, false, not, ◌&&◌, List, [], ◌∷◌, Option, None, Some, IsTrue, is_some, is_none}
 use Rattle.std.specs.List.{AllByRecursion}

@@ -1,4 +1,4 @@
--- One link of an activity: what it is at a moment, what was sent on it, and its moves.
+-- Believe: one link of an activity: what it is at a moment, what was sent on it, how it begins, and its moves.
 -- A link joins a participant and the scope that its registration names; the end is the scope's, once it
 -- has enrolled the participant.
 use Rattle.std.specs.Prelude.{◌≡◌, Bool, true, false, List, [], ◌++◌, Option, None, Some, IfSome, unwrap_or, Contains, if◌then◌else◌}
@@ -44,6 +44,17 @@ pub data Message : Type 0 where
 pub record Link : Type 0 where
   pub state : LinkState
   pub sent : List Message
+
+-- a link that begins: its participant is Registering, and has no end yet at a scope that may be sealed
+abbrev pub registering_link : Protocol → Bool → List Message → Link
+registering_link protocol sealed sent = record { state = record { protocol = protocol; end = None; part = part.Registering; sealed = sealed }; sent = sent }
+
+-- a link that begins with both sides Active, no verdict and nothing sent
+abbrev pub active_link : Protocol → Bool → Link
+active_link protocol sealed = record {
+  state = record { protocol = protocol; end = Some (record { state = end.Active; verdict = None }); part = part.Active; sealed = sealed };
+  sent = [];
+}
 
 -- a move of one side of a link
 pub data Move : Type 0 where
@@ -96,79 +107,79 @@ at_end move None = None
 at_end move (Some e) = move e
 
 -- a scope that isn't sealed enrols a participant that it hasn't enrolled
-abbrev pub enrolled : LinkState → Option End → Bool → Moved
-enrolled l None false = Some (with_end l end.Active None, Some registered)
-enrolled l None true = None
-enrolled l (Some e) sealed = None
+abbrev pub enrolled_link : LinkState → Option End → Bool → Moved
+enrolled_link l None false = Some (with_end l end.Active None, Some registered)
+enrolled_link l None true = None
+enrolled_link l (Some e) sealed = None
 
 -- a sealed scope refuses a participant that it hasn't enrolled
-abbrev pub refused : LinkState → Option End → Bool → Moved
-refused l None true = Some (l, Some refused_for_good)
-refused l None false = None
-refused l (Some e) sealed = None
+abbrev pub refused_link : LinkState → Option End → Bool → Moved
+refused_link l None true = Some (l, Some refused_for_good)
+refused_link l None false = None
+refused_link l (Some e) sealed = None
 
 -- a participant that is Registering is told where it stands
-abbrev pub told : LinkState → PState → PState → Moved
-told l part.Registering next = Some (with_part l next, None)
-told l p next = None
+abbrev pub told_link : LinkState → PState → PState → Moved
+told_link l part.Registering next = Some (with_part l next, None)
+told_link l p next = None
 
 -- the participant moves by its row
-abbrev pub part_moved : LinkState → PRow → Moved
-part_moved l prow.Invalid = None
-part_moved l (prow.Row next prompt) = Some (with_part l next, None)
+abbrev pub part_moved_link : LinkState → PRow → Moved
+part_moved_link l prow.Invalid = None
+part_moved_link l (prow.Row next prompt) = Some (with_part l next, None)
 
 -- An end that a row puts into Completed and that has a verdict moves on by that verdict in the same step.
-abbrev pub settled : Protocol → CState → Option Verdict → CState
-settled protocol end.Completed (Some v) = unwrap_or (chosen_state protocol end.Completed v) end.Completed
-settled protocol end.Completed None = end.Completed
-settled protocol s verdict = s
+abbrev pub settled_state : Protocol → CState → Option Verdict → CState
+settled_state protocol end.Completed (Some v) = unwrap_or (chosen_state protocol end.Completed v) end.Completed
+settled_state protocol end.Completed None = end.Completed
+settled_state protocol s verdict = s
 
 -- the end moves by its row
-abbrev pub end_moved : LinkState → Option Verdict → CRow → Moved
-end_moved l verdict crow.Invalid = None
-end_moved l verdict (crow.Row next prompt) = Some (with_end l (settled l.protocol next verdict) verdict, None)
+abbrev pub end_moved_link : LinkState → Option Verdict → CRow → Moved
+end_moved_link l verdict crow.Invalid = None
+end_moved_link l verdict (crow.Row next prompt) = Some (with_end l (settled_state l.protocol next verdict) verdict, None)
 
 -- a verdict is set once, where the state lets it be
-abbrev pub chosen : LinkState → Verdict → Option Verdict → Option CState → Moved
-chosen l v None (Some next) = Some (with_end l next (Some v), None)
-chosen l v None None = None
-chosen l v (Some before) next = None
+abbrev pub chosen_link : LinkState → Verdict → Option Verdict → Option CState → Moved
+chosen_link l v None (Some next) = Some (with_end l next (Some v), None)
+chosen_link l v None None = None
+chosen_link l v (Some before) next = None
 
 -- a participant is asked to complete before there is a verdict, where the state lets it be
-abbrev pub completed : LinkState → Option Verdict → Option CState → Moved
-completed l None (Some next) = Some (with_end l next None, None)
-completed l None None = None
-completed l (Some verdict) next = None
+abbrev pub completed_link : LinkState → Option Verdict → Option CState → Moved
+completed_link l None (Some next) = Some (with_end l next None, None)
+completed_link l None None = None
+completed_link l (Some verdict) next = None
 
 -- the participant's work comes to something, where the state lets it
-abbrev pub acted : LinkState → Option PState → Moved
-acted l None = None
-acted l (Some next) = Some (with_part l next, None)
+abbrev pub acted_link : LinkState → Option PState → Moved
+acted_link l None = None
+acted_link l (Some next) = Some (with_part l next, None)
 
 -- what a participant's tick sends
 abbrev pub part_message : PState → Option Message
 part_message part.Registering = Some register
 part_message p = option_map to_end (part_says p)
 
-abbrev pub moved : LinkState → Move → Moved
-moved l enrols = enrolled l l.end l.sealed
-moved l answers_again = at_end (λ e. Some (l, Some registered)) l.end
-moved l refuses_for_good = refused l l.end l.sealed
-moved l refuses_for_now = Some (l, Some refused_for_now)
-moved l is_enrolled = told l l.part part.Active
-moved l is_refused = told l l.part (part.Ended Refused)
-moved l (part_receives n) = part_moved l (part_row l.protocol l.part n)
-moved l (end_receives n) = at_end (λ e. end_moved l e.verdict (end_row l.protocol e.state n)) l.end
-moved l (chooses v) = at_end (λ e. chosen l v e.verdict (chosen_state l.protocol e.state v)) l.end
-moved l completes = at_end (λ e. completed l e.verdict (completed_state l.protocol e.state)) l.end
-moved l (acts a) = acted l (acted_state l.protocol l.part a)
-moved l end_ticks = at_end (λ e. Some (with_end l (end_tick e.state).0 e.verdict, option_map to_part (end_tick e.state).1)) l.end
-moved l part_ticks = Some (l, part_message l.part)
-moved l seals = Some (record l { sealed = true }, None)
-moved l asks_part = Some (l, Some (to_part notice.GetStatus))
-moved l asks_end = Some (l, Some (to_end notice.GetStatus))
-moved l (tells_part name) = Some (l, Some (to_part (notice.Status name)))
-moved l (tells_end name) = Some (l, Some (to_end (notice.Status name)))
+abbrev pub moved_link : LinkState → Move → Moved
+moved_link l enrols = enrolled_link l l.end l.sealed
+moved_link l answers_again = at_end (λ e. Some (l, Some registered)) l.end
+moved_link l refuses_for_good = refused_link l l.end l.sealed
+moved_link l refuses_for_now = Some (l, Some refused_for_now)
+moved_link l is_enrolled = told_link l l.part part.Active
+moved_link l is_refused = told_link l l.part (part.Ended Refused)
+moved_link l (part_receives n) = part_moved_link l (part_row l.protocol l.part n)
+moved_link l (end_receives n) = at_end (λ e. end_moved_link l e.verdict (end_row l.protocol e.state n)) l.end
+moved_link l (chooses v) = at_end (λ e. chosen_link l v e.verdict (chosen_state l.protocol e.state v)) l.end
+moved_link l completes = at_end (λ e. completed_link l e.verdict (completed_state l.protocol e.state)) l.end
+moved_link l (acts a) = acted_link l (acted_state l.protocol l.part a)
+moved_link l end_ticks = at_end (λ e. Some (with_end l (end_tick e.state).0 e.verdict, option_map to_part (end_tick e.state).1)) l.end
+moved_link l part_ticks = Some (l, part_message l.part)
+moved_link l seals = Some (record l { sealed = true }, None)
+moved_link l asks_part = Some (l, Some (to_part notice.GetStatus))
+moved_link l asks_end = Some (l, Some (to_end notice.GetStatus))
+moved_link l (tells_part name) = Some (l, Some (to_part (notice.Status name)))
+moved_link l (tells_end name) = Some (l, Some (to_end (notice.Status name)))
 
 -- One move: what it hears was sent, the state moves by it, and its message joins what was sent, or is lost
 -- before it ever went out.
@@ -177,5 +188,5 @@ pub record LinkStep (before after : Link) : Type 0 where
   pub joined : Bool
   pub message : Option Message
   pub heard : IfSome (heard_by move) (Contains before.sent)
-  pub moves : moved before.state move ≡ Some (after.state, message)
+  pub moves : moved_link before.state move ≡ Some (after.state, message)
   pub sent : after.sent ≡ before.sent ++ (if joined then option_to_list message else [])

@@ -1,4 +1,4 @@
--- The outcomes that a participant tells of its own accord (WS-BusinessActivity 1.2, section 3: Fail, Exit and
+-- Believe: the outcomes that a participant tells of its own accord (WS-BusinessActivity 1.2, section 3: Fail, Exit and
 -- CannotComplete), and how an end records one.
 use Rattle.std.specs.Prelude.{Bool, true, false, Option, None, Some, if◌then◌else◌}
 use Rattle.ba_core.specs.Cells.{Cell, to, pc_to}
@@ -31,11 +31,11 @@ outcome_kept (Ended NotCompleted) = Some notice.CannotComplete
 outcome_kept s = None
 
 -- the cell of a row leads to another state
-abbrev pub leads_on : Protocol → Cell CState → Bool
-leads_on protocol (to next) = true
-leads_on Pc (pc_to next) = true
-leads_on protocol cell = false
+abbrev pub cell_leads_on : Protocol → Cell CState → Bool
+cell_leads_on protocol (to next) = true
+cell_leads_on Pc (pc_to next) = true
+cell_leads_on protocol cell = false
 
 -- what a notice to an end in this state records: an outcome whose row leads to another state
 abbrev pub recorded_at : Protocol → CState → Notice → Option Notice
-recorded_at protocol s n = if is_outcome n then (if leads_on protocol (end_column n (end_rows s)) then Some n else None) else None
+recorded_at protocol s n = if is_outcome n then (if cell_leads_on protocol (end_column n (end_rows s)) then Some n else None) else None

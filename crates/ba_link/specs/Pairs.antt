@@ -1,4 +1,4 @@
--- Which states the two sides of a link may be in together, and which verdict an end's state goes with.
+-- Believe: which states the two sides of a link may be in together, and which verdict an end's state goes with.
 use Rattle.std.specs.Prelude.{Bool, true, false, not, ◌&&◌, ◌||◌, List, [], ◌∷◌, Option, None, Some}
 use Rattle.ba_core.specs.declared.protocols.Protocol.{Protocol}
 use Rattle.ba_core.specs.declared.protocols.Protocol.TheVariants.{Pc, Cc}

@@ -1,4 +1,4 @@
--- Tests of states: whether a state is among some others.
+-- Believe: tests of states: whether a state is among some others.
 use Rattle.std.specs.Prelude.{ℕ, Bool, List, nat_eq}
 use Rattle.std.specs.List.{list_any}
 use Rattle.ba_core.specs.declared.states.How.TheVariants.{Canceled, Closed, Compensated, Failed, Exited, NotCompleted, Refused}

@@ -1,47 +1,20 @@
--- The text that lists what a journal's file holds: a line for each record, numbered from 0, and a last line.
+-- Believe: the text that lists what a journal's file holds: a line for each record, numbered from 0, and a last line.
 use Rattle.std.specs.Prelude.{ℕ, ◌+◌, if◌then◌else◌, nat_eq, List, [], ◌∷◌, ◌++◌, length, Option, None, Some, codes}
 use Rattle.std.specs.Fmt.{decimal}
 use Rattle.ba_core.specs.Messages.{notice_name}
 use Rattle.ba_core.specs.Texts.{code_text}
+use Rattle.ba_core.specs.Words.{act_word, kind_word, protocol_word, verdict_word}
 use Rattle.ba_core.specs.declared.codes.Code.TheVariants as fault
-use Rattle.ba_core.specs.declared.notices.Act.{Act}
-use Rattle.ba_core.specs.declared.notices.Act.TheVariants as act
-use Rattle.ba_core.specs.declared.protocols.Kind.{Kind}
-use Rattle.ba_core.specs.declared.protocols.Kind.TheVariants.{Atomic, Mixed}
 use Rattle.ba_core.specs.declared.protocols.Protocol.{Protocol}
-use Rattle.ba_core.specs.declared.protocols.Protocol.TheVariants.{Pc, Cc}
-use Rattle.ba_core.specs.declared.protocols.Verdict.{Verdict}
-use Rattle.ba_core.specs.declared.protocols.Verdict.TheVariants.{Close, Undo}
 use Rattle.ba_tree.specs.declared.trees.Tree.{Tree}
-use Rattle.ba_tree.specs.declared.endpoints.Epr.{Epr}
+use Rattle.ba_message.specs.declared.endpoints.Epr.{Epr}
 use Rattle.ba_record.specs.declared.records.Record.{Record}
-use Rattle.ba_record.specs.declared.records.Record.TheVariants.{Node, Scope, End, Part, Enrolled, Refused, Received, Acted, Decided, Chosen, Ticked, Asked}
-use Rattle.ba_journal.specs.declared.listings.Scan.{Scan}
-use Rattle.ba_journal.specs.declared.listings.Scan.TheVariants.{Fresh, Found}
+use Rattle.ba_record.specs.declared.records.Record.TheVariants.{Node, Scope, End, Part, Enrolled, Refused}
+use Rattle.ba_record.specs.declared.records.Record.TheVariants.{Received, Acted, Decided, Chosen, Ticked, Asked}
+use Rattle.ba_journal.specs.declared.scans.Scan.{Scan}
+use Rattle.ba_journal.specs.declared.scans.Scan.TheVariants.{Fresh, Found}
 
 -- ---- single words
-
-abbrev pub kind_word : Kind → List ℕ
-kind_word Atomic = codes "atomic"
-kind_word Mixed = codes "mixed"
-
-abbrev pub protocol_word : Protocol → List ℕ
-protocol_word Pc = codes "pc"
-protocol_word Cc = codes "cc"
-
-abbrev pub verdict_word : Verdict → List ℕ
-verdict_word Close = codes "close"
-verdict_word Undo = codes "undo"
-
--- an act as scripts name it
-abbrev pub act_word : Act → List ℕ
-act_word act.Completed = codes "completed"
-act_word act.Closed = codes "closed"
-act_word act.Canceled = codes "canceled"
-act_word act.Compensated = codes "compensated"
-act_word act.Fail = codes "fail"
-act_word act.Exit = codes "exit"
-act_word act.CannotComplete = codes "cannotcomplete"
 
 -- why a part was refused; a number that stands for no code as it is
 abbrev pub refusal_word : ℕ → List ℕ
@@ -74,7 +47,7 @@ parameters_words (tree ∷ trees) = codes " +" ++ decimal (length (tree ∷ tree
 abbrev pub endpoint_words : Epr → List ℕ
 endpoint_words epr = epr.address ++ parameters_words epr.parameters
 
--- a protocol and an endpoint, behind other words
+-- a protocol and an endpoint, after other words
 abbrev pub link_words : Protocol → Epr → List ℕ
 link_words protocol epr = codes " " ++ (protocol_word protocol ++ (codes " " ++ endpoint_words epr))
 
@@ -89,7 +62,8 @@ abbrev pub record_words : Record → List ℕ
 record_words (Node number base) = codes "node " ++ (decimal number ++ (codes " " ++ base))
 record_words (Scope counter kind deadline upward) =
     codes "scope " ++ (decimal counter ++ (codes " " ++ (kind_word kind ++ (codes " " ++ (deadline_word deadline ++ upward_words upward)))))
-record_words (End counter scope protocol participant) = codes "end " ++ (decimal counter ++ (codes " " ++ (decimal scope ++ link_words protocol participant)))
+record_words (End counter scope protocol participant) =
+    codes "end " ++ (decimal counter ++ (codes " " ++ (decimal scope ++ link_words protocol participant)))
 record_words (Part counter protocol registration) = codes "part " ++ (decimal counter ++ link_words protocol registration)
 record_words (Enrolled counter coordinator) = codes "enrolled " ++ (decimal counter ++ (codes " " ++ endpoint_words coordinator))
 record_words (Refused counter code) = codes "refused " ++ (decimal counter ++ (codes " " ++ refusal_word code))
@@ -111,7 +85,7 @@ abbrev pub lines_from : ℕ → List Record → List ℕ
 lines_from index [] = []
 lines_from index (r ∷ records) = line_text index r ++ lines_from (index + 1) records
 
--- the last line: that nothing is there yet, or the place where reading stopped and the bytes behind that gate
+-- the last line: that nothing is there yet, or the place where reading stopped and the bytes after that gate
 abbrev pub end_text : Scan → List ℕ
 end_text Fresh = codes "fresh\n"
 end_text (Found records end tail) = codes "end at " ++ (decimal end ++ (codes " tail " ++ (decimal tail ++ codes "\n")))

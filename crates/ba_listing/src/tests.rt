@@ -1,10 +1,12 @@
 //! Listings that were written out by hand.
 
-use crate::{list, put_end, put_line};
+use crate::{journal, list, put_end, put_line};
 use ba_core::{Act, Kind, List, Memory, Notice, Octets, Protocol, Verdict};
 use ba_journal::Scan;
+use ba_memory::{Out, Text};
+use ba_message::Epr;
 use ba_record::Record;
-use ba_tree::{Epr, Name, Tree};
+use ba_tree::{Name, Namespace, Tree};
 use std::alloc::Global;
 use std::process::Abort;
 use std::test::Fail;
@@ -35,7 +37,7 @@ fn octets(alloc: Global, bytes: &[u8]) -> Result<Octets, Memory> {
 fn parameter(alloc: Global) -> Result<Tree, Memory> {
     Ok(Tree {
         name: Name {
-            space: octets(alloc, b"urn:app")?,
+            space: Namespace::of(alloc, octets(alloc, b"urn:app")?)?,
             local: octets(alloc, b"Key")?,
         },
         attributes: List::new(alloc),
@@ -115,6 +117,23 @@ fn lines_one_by_one(rt: HostRuntime) -> Result<(), Fail> {
     assert_eq!(rt;
         out.as_slice(),
         b"1000000 refused 7 CannotRegisterParticipant\n0 chosen 7 close\nfresh\n".as_slice()
+    );
+    Ok(())
+}
+
+// The file of node 1 with the base http://node1: the header, one frame, and the last gate.
+const SMALLEST: &[u8] =
+    b"\x01BAJOURNAL\x01\0\0\0\0\0\x01\x13\0\0\0\x01\x01\0\0\0\x0c\0http://node1\0";
+
+#[test]
+fn smallest_journal(rt: HostRuntime) -> Result<(), Fail> {
+    let alloc = rt.alloc();
+    let mut source = Text::of(octets(alloc, SMALLEST)?, 7, List::new(alloc));
+    let mut sink = Out::of(alloc, 1000, List::new(alloc));
+    assert_eq!(rt; journal(alloc, &mut source, &mut sink), Ok(()));
+    assert_eq!(rt;
+        sink.bytes(),
+        b"0 node 1 http://node1\nend at 40 tail 0\n".as_slice()
     );
     Ok(())
 }

@@ -1,12 +1,14 @@
 //! The words of a record, put behind other bytes.
 ghost use Rattle.std.specs.Prelude.{◌≡◌, ◌++◌, codes, OnOk};
 ghost use Rattle.std.specs.Fmt.{decimal};
-ghost use Rattle.ba_listing.specs.Listing.{record_words, kind_word, protocol_word, verdict_word, act_word, refusal_word, choice_word};
+ghost use Rattle.ba_core.specs.Words.{kind_word};
+ghost use Rattle.ba_listing.specs.Listing.{record_words, refusal_word, choice_word};
 ghost use Rattle.ba_listing.specs.Listing.{deadline_word, parameters_words, endpoint_words, link_words, upward_words};
 
-use ba_core::{Act, Kind, List, Memory, Octets, Protocol, Verdict, name_of};
+use ba_core::{Kind, List, Memory, Octets, Protocol, name_of};
+use ba_message::Epr;
 use ba_record::Record;
-use ba_tree::{Epr, Tree};
+use ba_tree::Tree;
 use itoa::Buffer;
 
 /// Puts the record's words last.
@@ -39,13 +41,8 @@ pub fn put_record(line: &mut Octets, r: &Record) -> Result<(), Memory>
             *counter,
             name_of(*notice),
         ),
-        Record::Acted(counter, act) => put_named(line, b"acted ", *counter, word_of_act(*act)),
-        Record::Decided(counter, verdict) => put_named(
-            line,
-            b"decided ",
-            *counter,
-            word_of_verdict(*verdict),
-        ),
+        Record::Acted(counter, act) => put_named(line, b"acted ", *counter, act.word()),
+        Record::Decided(counter, verdict) => put_named(line, b"decided ", *counter, verdict.word()),
         Record::Chosen(counter, choice) => put_chosen(line, *counter, *choice),
         Record::Ticked(counter) => put_counted(line, b"ticked ", *counter),
         Record::Asked(counter) => put_counted(line, b"asked ", *counter),
@@ -91,7 +88,7 @@ fn put_scope(
 ) -> Result<(), Memory>
     ensures { OnOk result (line.new ≡ line.old ++ (codes "scope " ++ (decimal counter ++ (codes " " ++ (kind_word kind ++ (codes " " ++ (deadline_word deadline ++ upward_words upward.now))))))) }
 {
-    put_named(line, b"scope ", counter, word_of_kind(kind))?;
+    put_named(line, b"scope ", counter, kind.word())?;
     line.append(b" ")?;
     put_deadline(line, deadline)?;
     put_upward(line, upward)
@@ -194,7 +191,7 @@ fn put_link(line: &mut Octets, protocol: Protocol, epr: &Epr) -> Result<(), Memo
     ensures { OnOk result (line.new ≡ line.old ++ link_words protocol epr.now) }
 {
     line.append(b" ")?;
-    line.append(word_of_protocol(protocol))?;
+    line.append(protocol.word())?;
     line.append(b" ")?;
     put_endpoint(line, epr)
 }
@@ -213,45 +210,4 @@ fn put_parameters(line: &mut Octets, parameters: &List<Tree>) -> Result<(), Memo
         return Ok(());
     }
     put_counted(line, b" +", parameters.len() as u64)
-}
-
-fn word_of_kind(kind: Kind) -> &'static [u8]
-    ensures { result.now ≡ kind_word kind }
-{
-    match kind {
-        Kind::Atomic => b"atomic",
-        Kind::Mixed => b"mixed",
-    }
-}
-
-fn word_of_protocol(protocol: Protocol) -> &'static [u8]
-    ensures { result.now ≡ protocol_word protocol }
-{
-    match protocol {
-        Protocol::Pc => b"pc",
-        Protocol::Cc => b"cc",
-    }
-}
-
-fn word_of_verdict(verdict: Verdict) -> &'static [u8]
-    ensures { result.now ≡ verdict_word verdict }
-{
-    match verdict {
-        Verdict::Close => b"close",
-        Verdict::Undo => b"undo",
-    }
-}
-
-fn word_of_act(act: Act) -> &'static [u8]
-    ensures { result.now ≡ act_word act }
-{
-    match act {
-        Act::Completed => b"completed",
-        Act::Closed => b"closed",
-        Act::Canceled => b"canceled",
-        Act::Compensated => b"compensated",
-        Act::Fail => b"fail",
-        Act::Exit => b"exit",
-        Act::CannotComplete => b"cannotcomplete",
-    }
 }

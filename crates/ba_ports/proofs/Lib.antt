@@ -1,4 +1,2 @@
-pub mod DiskCalls
-pub mod MediumKept
+pub mod Due
 pub mod Moments
-pub mod Turns

@@ -1,4 +1,4 @@
--- When a failure may be answered: only where the object that was handed in counted one.
+-- Believe: when a failure may be answered: only where the object that was handed in counted one.
 use Rattle.std.specs.Prelude.{ℕ, ◌+◌, ◌-◌, ◌^◌, ◌≤◌, min, Result, OnErr}
 use Rattle.ba_ports.specs.declared.failures.Failed.{Failed}
 

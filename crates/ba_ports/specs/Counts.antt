@@ -1,4 +1,4 @@
--- The counts of calls and of faults, which stop at the greatest u64.
+-- Believe: the counts of calls and of faults, which stop at the greatest u64.
 use Rattle.std.specs.Prelude.{ℕ, ◌+◌, ◌-◌, ◌^◌, min, List, Contains}
 
 -- one more

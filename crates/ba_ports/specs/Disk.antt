@@ -1,4 +1,4 @@
--- The disk model: what a read gives, what a crash may leave, and by which calls one disk leads to another.
+-- Believe: the disk model: what a read gives, what a crash may leave, and by which calls one disk leads to another.
 use Rattle.std.specs.Prelude.{◌≡◌, ◌⊎◌, ◌+◌, ◌<◌, ◌≤◌, ℕ, max, Bool, true, false, List, [], ◌∷◌, ◌++◌, length, take, drop, Option, Some, None, Result, is_err}
 use Rattle.ba_ports.specs.declared.images.Image.{Image}
 use Rattle.ba_ports.specs.declared.requests.Call.{Call}
@@ -34,9 +34,9 @@ pub record CutShort (len : ℕ) (old new : List ℕ) : Type 0 where
   pub no_shorter : len ≤ end
   pub front : new ≡ take end old
 
--- each outcome of a crash now is an outcome before, to which this was done
-abbrev pub DoneTo : (List ℕ → List ℕ → Type 0) → (List ℕ → Type 0) → (List ℕ → Type 0) → Type 0
-DoneTo step before now = (c : List ℕ) → now c → (d : List ℕ) × before d × step d c
+-- what a crash might have left before, after this was done to it
+abbrev pub Done : (List ℕ → List ℕ → Type 0) → (List ℕ → Type 0) → List ℕ → Type 0
+Done step before c = (d : List ℕ) × before d × step d c
 
 -- a crash may leave no other bytes than before
 abbrev pub NoMore : (List ℕ → Type 0) → (List ℕ → Type 0) → Type 0
@@ -49,10 +49,10 @@ Only file now = (c : List ℕ) → now c → c ≡ file
 -- Crashes between two states of one disk
 
 -- A call leads from old to new: since any state before it, a crash may have left what it may have left
--- before the call, or what it may leave now, and nothing else.
-pub record Passes {D : Type 0} (later : D → D → Type 0) (left_between : D → D → List ℕ → Type 0) (may_leave : D → List ℕ → Type 0) (old new : D) : Type 0 where
+-- before the call, or what it may leave during the call, and nothing else.
+pub record Passes {D : Type 0} (later : D → D → Type 0) (left_between : D → D → List ℕ → Type 0) (during : List ℕ → Type 0) (old new : D) : Type 0 where
   pub goes_on : (a : D) → later a old → later a new
-  pub nothing_else : (a : D) (c : List ℕ) → later a old → left_between a new c → left_between a old c ⊎ may_leave new c
+  pub nothing_else : (a : D) (c : List ℕ) → later a old → left_between a new c → left_between a old c ⊎ during c
   pub keeps : (a : D) (c : List ℕ) → later a old → left_between a old c → left_between a new c
 
 -- A crash at any moment from old to new leaves bytes that have P.

@@ -1,11 +1,8 @@
 pub mod Causes
 pub mod Counts
 pub mod Disk
-pub mod DiskLaws
-pub mod DiskValue
-pub mod MediumFits
-pub mod OutState
-pub mod ReadSourceState
+pub mod Inputs
+pub mod Lines
+pub mod Outputs
 pub mod Streams
-pub mod TextState
-pub mod WriteSinkState
+pub mod Whole

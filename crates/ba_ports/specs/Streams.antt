@@ -1,4 +1,4 @@
--- What a write says of itself.
+-- Believe: what a write says of itself.
 use Rattle.std.specs.Prelude.{ℕ, Bool, false, List, [], ◌∷◌, Result, Ok, Err, nat_eq}
 
 -- a write of this piece took nothing of it, although it wasn't empty

@@ -1,8 +1,8 @@
 //! A file as a journal meets it: what a read gives, and what a crash may leave.
-ghost use Rattle.std.specs.Prelude.{◌≡◌, ◌+◌, ◌^◌, ◌<◌, ◌≤◌, ℕ, Bool, [], ◌∷◌, ◌++◌, List, Option, length, take, IsTrue, IfOk, OnOk};
+ghost use Rattle.std.specs.Prelude.{◌≡◌, ◌+◌, ◌^◌, ◌<◌, ◌≤◌, ℕ, Bool, [], ◌∷◌, ◌++◌, List, Option, length, take, IsTrue, IfOk, OnOk, OnErr};
 ghost use Rattle.std.specs.Io.{ReadsAtMost};
 ghost use Rattle.ba_ports.specs.Causes.{HasCause};
-ghost use Rattle.ba_ports.specs.Disk.{Reads, written_at, Torn, CutShort, DoneTo, NoMore, Only, Passes, called, counted, Lists, Armament, fail, stop, nothing, KeepsContent};
+ghost use Rattle.ba_ports.specs.Disk.{Reads, written_at, Torn, CutShort, Done, NoMore, Only, Passes, called, counted, Lists, Armament, fail, stop, nothing, KeepsContent};
 ghost use Rattle.ba_ports.specs.declared.requests.Call.{Call};
 ghost use Rattle.ba_ports.specs.declared.requests.Request.TheVariants as request;
 
@@ -38,19 +38,21 @@ pub trait Disk {
         ensures length { IsTrue (follows self.old) → IfOk result (λ n. n ≡ length (seen self.old)) }
         ensures seen { IsTrue (follows self.old) → seen self.new ≡ seen self.old }
         ensures crash { IsTrue (follows self.old) → NoMore (may_leave self.old) (may_leave self.new) }
-        ensures moments { IsTrue (follows self.old) → Passes later left_between may_leave self.old self.new }
+        ensures moments { IsTrue (follows self.old) → Passes later left_between (may_leave self.old) self.old self.new }
         ensures follows { follows self.new ≡ follows self.old }
         ensures driven { driven self.old (called request.Len result ∷ []) self.new }
         ensures cause { HasCause (faults self.old) (faults self.new) result };
 
     /// Moves bytes from a place on into the room, and says how many: at least one where the room isn't
-    /// empty and the file has one there, and none at the file's end or past it.
+    /// empty and the file has one there, and none at the file's end or past it. A read that fails leaves the
+    /// room as it was, on a disk that follows the model.
     fn read_at(&mut self, place: u64, room: &mut [u8]) -> Result<usize, Failed>
         ensures bound { ReadsAtMost result room.new }
         ensures bytes { IsTrue (follows self.old) → IfOk result (λ n. Reads (seen self.old) place n room.old room.new) }
+        ensures untouched { IsTrue (follows self.old) → OnErr result (room.new ≡ room.old) }
         ensures seen { IsTrue (follows self.old) → seen self.new ≡ seen self.old }
         ensures crash { IsTrue (follows self.old) → NoMore (may_leave self.old) (may_leave self.new) }
-        ensures moments { IsTrue (follows self.old) → Passes later left_between may_leave self.old self.new }
+        ensures moments { IsTrue (follows self.old) → Passes later left_between (may_leave self.old) self.old self.new }
         ensures follows { follows self.new ≡ follows self.old }
         ensures driven { driven self.old (called (request.ReadAt place (length room.old)) result ∷ []) self.new }
         ensures cause { HasCause (faults self.old) (faults self.new) result };
@@ -62,8 +64,8 @@ pub trait Disk {
         ensures written { IsTrue (follows self.old) → OnOk result (seen self.new ≡ written_at place piece.now (seen self.old)) }
         ensures within { IsTrue (follows self.old) → OnOk result (place + length piece.now < 2 ^ 64) }
         ensures torn { IsTrue (follows self.old) → Torn place (length piece.now) (seen self.old) (seen self.new) }
-        ensures crash { IsTrue (follows self.old) → DoneTo (Torn place (length piece.now)) (may_leave self.old) (may_leave self.new) }
-        ensures moments { IsTrue (follows self.old) → Passes later left_between may_leave self.old self.new }
+        ensures crash { IsTrue (follows self.old) → NoMore (Done (Torn place (length piece.now)) (may_leave self.old)) (may_leave self.new) }
+        ensures moments { IsTrue (follows self.old) → Passes later left_between (Done (Torn place (length piece.now)) (may_leave self.old)) self.old self.new }
         ensures follows { follows self.new ≡ follows self.old }
         ensures driven { driven self.old (called (request.WriteAt place piece.now) result ∷ []) self.new }
         ensures cause { HasCause (faults self.old) (faults self.new) result };
@@ -73,8 +75,8 @@ pub trait Disk {
         requires { IsTrue (follows self.old) → len ≤ length (seen self.old) }
         ensures cut { IsTrue (follows self.old) → OnOk result (seen self.new ≡ take len (seen self.old)) }
         ensures short { IsTrue (follows self.old) → CutShort len (seen self.old) (seen self.new) }
-        ensures crash { IsTrue (follows self.old) → DoneTo (CutShort len) (may_leave self.old) (may_leave self.new) }
-        ensures moments { IsTrue (follows self.old) → Passes later left_between may_leave self.old self.new }
+        ensures crash { IsTrue (follows self.old) → NoMore (Done (CutShort len) (may_leave self.old)) (may_leave self.new) }
+        ensures moments { IsTrue (follows self.old) → Passes later left_between (Done (CutShort len) (may_leave self.old)) self.old self.new }
         ensures follows { follows self.new ≡ follows self.old }
         ensures driven { driven self.old (called (request.Cut len) result ∷ []) self.new }
         ensures cause { HasCause (faults self.old) (faults self.new) result };
@@ -84,7 +86,7 @@ pub trait Disk {
         ensures durable { IsTrue (follows self.old) → OnOk result (Only (seen self.old) (may_leave self.new)) }
         ensures seen { IsTrue (follows self.old) → seen self.new ≡ seen self.old }
         ensures crash { IsTrue (follows self.old) → NoMore (may_leave self.old) (may_leave self.new) }
-        ensures moments { IsTrue (follows self.old) → Passes later left_between may_leave self.old self.new }
+        ensures moments { IsTrue (follows self.old) → Passes later left_between (may_leave self.old) self.old self.new }
         ensures follows { follows self.new ≡ follows self.old }
         ensures driven { driven self.old (called request.Sync result ∷ []) self.new }
         ensures cause { HasCause (faults self.old) (faults self.new) result };

@@ -1,21 +1,21 @@
 -- The tests of a base tell whether it can be dialed and has no path.
-use Rattle.std.proofs.Common.{◌≡◌, ℕ, inl, inr, Bool, true, false, true≢false, ◌&&◌, ◌||◌, not, nat_le, List, [], ◌∷◌, ◌++◌, length, take, drop, ap, refl, sym, ◌∙◌, codes, ◌==◌}
-use Rattle.std.proofs.lemmas.Bool.{leb-true, le-leb, eqb-true}
-use Rattle.std.proofs.lemmas.List.{take-append-drop}
+use Rattle.std.proofs.Common.{◌≡◌, ℕ, inl, inr, Bool, true, false, true≢false, ◌&&◌, ◌||◌, not, nat_le, List, [], ◌∷◌, ◌++◌, take, drop, ap, refl, sym, ◌∙◌, codes, ◌==◌}
+use Rattle.ba_message.specs.Endpoints.{fits_endpoint}
+use Rattle.ba_message.proofs.FitTests.{fits_by_tests, tests_by_fits}
+use Rattle.std.proofs.lemmas.Bool.{eqb-true}
 use Rattle.std.proofs.lemmas.List.Folds.{list_all-append}
 use Rattle.std.specs.Cmp.{first_so, second_so}
-use Rattle.std.specs.Cmp.Lexicographic.{same_text}
 use Rattle.std.specs.List.{list_all, list_any}
 use Rattle.std.specs.Str.Parse.{digits_value}
-use Rattle.ba_tree.specs.declared.endpoints.Epr.{Epr}
+use Rattle.ba_message.specs.declared.endpoints.Epr.{Epr}
 use Rattle.ba_tree.specs.Characters.{is_within}
-use Rattle.ba_tree.specs.Dialing.{takes_host}
-use Rattle.ba_tree.specs.Endpoints.{Fits, IsDialable, IsPort, IsPath, is_host_byte, is_port_number}
+use Rattle.ba_message.specs.Addresses.{IsDialable, IsPort, IsPath, is_host_byte, is_port_number}
+use Rattle.ba_message.specs.Endpoints.{Fits}
 use Rattle.ba_tree.specs.Names.{is_digit}
-use Rattle.ba_tree.specs.Trees as trees
-use Rattle.ba_tree.proofs.Dialed.{dialable_of, taken_of}
-use Rattle.ba_record.specs.Endpoints.{IsBase, is_base, is_fit, base_tests}
-use Rattle.ba_record.proofs.Fitting.{each_true, all_are, fits_by_tests, tests_by_fits}
+use Rattle.std.specs.Str.{bytes_eq}
+use Rattle.ba_message.specs.Dialing.{is_dialable}
+use Rattle.ba_message.proofs.Dialed.{dialable_by_test, test_by_dialable}
+use Rattle.ba_record.specs.Endpoints.{IsBase, is_base}
 
 abbrev is_no_slash : ℕ → Bool
 is_no_slash b = not (b == 0x2F)
@@ -63,12 +63,11 @@ path_with_slash path (inr is) h = absurd (true≢false (sym h ∙ ap (list_all i
 pub base_by_tests : (base : List ℕ) → is_base base ≡ true → IsBase base
 unfolding is_base
 base_by_tests base h =
-    let t = each_true (base_tests base) h in
-    let spelled : base ≡ codes "http://" ++ drop 7 base = sym (take-append-drop 7 base) ∙ ap (λ (xs : List ℕ). xs ++ drop 7 base) (same_text (take 7 base) (codes "http://") (sym t.0)) in
-    let d = dialable_of base (drop 7 base) spelled (leb-true (length base) 1024 t.1.0) t.1.1.0 in
+    let d = dialable_by_test base (first_so (is_dialable base) (list_all is_no_slash (drop 7 base)) h) in
+    let no_slash : list_all is_no_slash (drop 7 base) ≡ true = second_so (is_dialable base) (list_all is_no_slash (drop 7 base)) h in
     let rest : drop 7 base ≡ d.host ++ (d.port ++ d.path) = ap (drop 7) d.spelled in
-    let free = all_behind is_no_slash d.port d.path (all_behind is_no_slash d.host (d.port ++ d.path) (sym (ap (list_all is_no_slash) rest) ∙ t.1.1.1.0)) in
-    record { dialable = d; pathless = path_with_slash d.path d.is_path free }
+    let later = all_behind is_no_slash d.host (d.port ++ d.path) (sym (ap (list_all is_no_slash) rest) ∙ no_slash) in
+    record { dialable = d; pathless = path_with_slash d.path d.is_path (all_behind is_no_slash d.port d.path later) }
 
 free_of : (base : List ℕ) → IsBase base → list_all is_no_slash (drop 7 base) ≡ true
 free_of base is =
@@ -82,15 +81,7 @@ free_of base is =
 pub tests_by_base : (base : List ℕ) → IsBase base → is_base base ≡ true
 unfolding is_base
 tests_by_base base is =
-    let d = is.dialable in
-    let k = taken_of base d in
-    all_are (base_tests base) (
-      ap (λ (xs : List ℕ). trees.same_text (take 7 xs) (codes "http://")) d.spelled,
-      (
-        le-leb (length base) 1024 d.short,
-        (ap (λ (xs : List ℕ). takes_host (drop 7 xs)) k.1 ∙ k.2, (free_of base is, tt)),
-      ),
-    )
+    both (is_dialable base) (list_all is_no_slash (drop 7 base)) (test_by_dialable base is.dialable) (free_of base is)
 
 -- ---- for the code
 
@@ -101,8 +92,8 @@ told_by false false to from by back = refl
 told_by true false to from by back = sym (back (to refl))
 told_by false true to from by back = from (by refl)
 
-pub tells_fit : (e : Epr) (answer : Bool) → (answer ≡ true → Fits e) × (Fits e → answer ≡ true) → answer ≡ is_fit e
-tells_fit e answer is = told_by answer (is_fit e) is.0 is.1 (fits_by_tests e) (tests_by_fits e)
+pub tells_fit : (e : Epr) (answer : Bool) → (answer ≡ true → Fits e) × (Fits e → answer ≡ true) → answer ≡ fits_endpoint e
+tells_fit e answer is = told_by answer (fits_endpoint e) is.0 is.1 (fits_by_tests e) (tests_by_fits e)
 
 no_slash_is : (bytes : List ℕ) → not (list_any (λ b. b == 0x2F) bytes) ≡ list_all is_no_slash bytes
 no_slash_is [] = refl
@@ -131,6 +122,6 @@ no_base base answer fails is =
     told_by answer (is_base base) (λ (h : answer ≡ true). absurd (true≢false (sym h ∙ fails))) (λ b. is b.dialable) (base_by_tests base) (tests_by_base base)
 
 -- nor is what has another scheme
-pub other_scheme : (base : List ℕ) → (trees.same_text (take 7 base) (codes "http://") ≡ false) → false ≡ is_base base
+pub other_scheme : (base : List ℕ) → (bytes_eq (take 7 base) (codes "http://") ≡ false) → false ≡ is_base base
 other_scheme base other =
-    no_base base false refl (λ d. sym other ∙ ap (λ (xs : List ℕ). trees.same_text (take 7 xs) (codes "http://")) d.spelled)
+    no_base base false refl (λ d. sym other ∙ ap (λ (xs : List ℕ). bytes_eq (take 7 xs) (codes "http://")) d.spelled)

@@ -1,5 +1,8 @@
 -- Records are read back from their codings.
 use Rattle.std.proofs.Common.{◌≡◌, ℕ, suc, ◌+◌, ◌-◌, ◌^◌, ◌<◌, ◌≤◌, Bool, true, false, cond, ◌&&◌, nat_le, nat_eq, Option, None, Some, Ok, Err, List, [], ◌∷◌, ◌++◌, length, take, drop, ap, refl, sym, ◌∙◌, subst, append_assoc, append-nil, arith, length-append}
+use Rattle.ba_message.specs.Endpoints.{fits_endpoint}
+use Rattle.ba_message.specs.declared.endpoints.TheConstants.{MOST_ENDPOINT_BYTES}
+use Rattle.ba_message.proofs.FitTests.{fits_by_tests, tests_by_fits}
 use Rattle.std.proofs.lemmas.Bool.{leb-true, le-leb, cond_both, eqb-true, eqb-false}
 use Rattle.std.proofs.lemmas.List.{take-append-drop}
 use Rattle.std.proofs.Math.Seq.{take-append-add, drop-append-add, drop-append_seam}
@@ -15,22 +18,22 @@ use Rattle.ba_core.specs.declared.protocols.Protocol.{Protocol}
 use Rattle.ba_core.specs.declared.protocols.Protocol.TheVariants.{Pc, Cc}
 use Rattle.ba_core.specs.declared.protocols.Verdict.{Verdict}
 use Rattle.ba_core.specs.declared.protocols.Verdict.TheVariants.{Close, Undo}
-use Rattle.ba_tree.specs.declared.endpoints.Epr.{Epr}
-use Rattle.ba_tree.specs.Endpoints.{Fits}
+use Rattle.ba_message.specs.declared.endpoints.Epr.{Epr}
+use Rattle.ba_message.specs.Endpoints.{Fits}
 use Rattle.ba_core.specs.Messages.{notice_code}
 use Rattle.ba_record.specs.declared.records.Record.{Record}
 use Rattle.ba_record.specs.declared.records.Record.TheVariants.{Node, Scope, End, Part, Enrolled, Refused, Received, Acted, Decided, Chosen, Ticked, Asked}
 use Rattle.ba_record.specs.declared.records.RecordFault.TheVariants.{BadKind}
 use Rattle.ba_record.specs.declared.records.RecordFault.{RecordFault}
 use Rattle.ba_record.specs.declared.records.RecordFault.TheVariants as fault
-use Rattle.ba_record.specs.Endpoints.{IsBase, is_base, is_fit}
+use Rattle.ba_record.specs.Endpoints.{IsBase, is_base}
 use Rattle.ba_record.specs.Coding.{coding, InRange, IsCounter, IsFrom1, IsDeadline, IsUpward, counter_coding, string_coding, option_coding, upward_coding, endpoint_coding, kind_code, protocol_code, verdict_code, act_code}
-use Rattle.ba_record.specs.Reading.{IsBytes, Reading, read, bad, short, onward, tested, most_bytes, of_front, read_any_endpoint, read_endpoint, read_upward, read_kind, read_protocol, read_verdict, read_act, read_notice, read_from_1, read_counter, read_node_number, read_base, read_option, read_number, read_node, read_scope, read_end, read_part, read_enrolled, read_refused, read_received, read_acted, read_decided, read_chosen, read_ticked, read_asked, read_record, is_kind, whole, reading, told, ReadsTo, plain_notices, with_code}
+use Rattle.ba_record.specs.Reading.{IsBytes, Reading, read, bad, short, onward, tested, of_front, read_any_endpoint, read_endpoint, read_upward, read_kind, read_protocol, read_verdict, read_act, read_notice, read_from_1, read_counter, read_node_number, read_base, read_option, read_number, read_node, read_scope, read_end, read_part, read_enrolled, read_refused, read_received, read_acted, read_decided, read_chosen, read_ticked, read_asked, read_record, is_kind, whole, reading, told, ReadsTo, plain_notices, with_code}
 use Rattle.ba_record.proofs.Exact.{IsExact, went, exact_byte, exact_32, exact_64, exact_string, exact_pair, exact_tested, exact_coded, exact_option, IsString, IfThere, passed, passes, digits_are, before, goes_on}
 use Rattle.ba_record.proofs.Lengths.{endpoint_length_is}
 use Rattle.ba_record.proofs.ExactTrees.{exact_any_endpoint}
 use Rattle.ba_record.proofs.Bases.{base_by_tests, tests_by_base}
-use Rattle.ba_record.proofs.Fitting.{in_its_ranges, fits_by_tests, tests_by_fits}
+use Rattle.ba_record.proofs.Fitting.{in_its_ranges}
 
 -- ---- the same coding and another range
 
@@ -142,34 +145,34 @@ length_of_endpoint e fits = let size = fits.size in let long = endpoint_length_i
 pub exact_endpoint : IsExact read_endpoint endpoint_coding Fits
 exact_endpoint = record { sound = sound; complete = complete }
   where
-    front_sound : (bytes rest : List ℕ) (e : Epr) → IsBytes (take most_bytes bytes) → (r : Reading Epr) → read_any_endpoint (take most_bytes bytes) ≡ r
+    front_sound : (bytes rest : List ℕ) (e : Epr) → IsBytes (take MOST_ENDPOINT_BYTES bytes) → (r : Reading Epr) → read_any_endpoint (take MOST_ENDPOINT_BYTES bytes) ≡ r
         → of_front bytes r ≡ read e rest → Fits e × (bytes ≡ endpoint_coding e ++ rest)
     front_sound bytes rest e are (read a more) is on =
-        let here = exact_any_endpoint.sound (take most_bytes bytes) more a are is in
-        let q = passed is_fit a e bytes (more ++ drop most_bytes bytes) rest on in (
+        let here = exact_any_endpoint.sound (take MOST_ENDPOINT_BYTES bytes) more a are is in
+        let q = passed fits_endpoint a e bytes (more ++ drop MOST_ENDPOINT_BYTES bytes) rest on in (
           fits_by_tests e q.0,
-          sym (take-append-drop most_bytes bytes) ∙ ap (λ (xs : List ℕ). xs ++ drop most_bytes bytes) here.1
-              ∙ append_assoc (endpoint_coding a) more (drop most_bytes bytes) ∙ (λ i. endpoint_coding (q.1.0 i) ++ q.1.1 i),
+          sym (take-append-drop MOST_ENDPOINT_BYTES bytes) ∙ ap (λ (xs : List ℕ). xs ++ drop MOST_ENDPOINT_BYTES bytes) here.1
+              ∙ append_assoc (endpoint_coding a) more (drop MOST_ENDPOINT_BYTES bytes) ∙ (λ i. endpoint_coding (q.1.0 i) ++ q.1.1 i),
         )
     front_sound bytes rest e are (bad from) is on = absurd (cc)
     front_sound bytes rest e are short is on =
-        cond_both (nat_le most_bytes (length bytes)) (bad bytes) short (λ r. r ≡ read e rest → Fits e × (bytes ≡ endpoint_coding e ++ rest)) (λ t no. absurd (cc)) (λ t no. absurd (cc)) on
+        cond_both (nat_le MOST_ENDPOINT_BYTES (length bytes)) (bad bytes) short (λ r. r ≡ read e rest → Fits e × (bytes ≡ endpoint_coding e ++ rest)) (λ t no. absurd (cc)) (λ t no. absurd (cc)) on
 
     sound : (bytes rest : List ℕ) (e : Epr) → IsBytes bytes → read_endpoint bytes ≡ read e rest → Fits e × (bytes ≡ endpoint_coding e ++ rest)
     sound bytes rest e are is =
-        front_sound bytes rest e (digits_are bytes (take most_bytes bytes) (drop most_bytes bytes) are (sym (take-append-drop most_bytes bytes))) (read_any_endpoint (take most_bytes bytes)) refl is
+        front_sound bytes rest e (digits_are bytes (take MOST_ENDPOINT_BYTES bytes) (drop MOST_ENDPOINT_BYTES bytes) are (sym (take-append-drop MOST_ENDPOINT_BYTES bytes))) (read_any_endpoint (take MOST_ENDPOINT_BYTES bytes)) refl is
 
     complete : (e : Epr) (rest : List ℕ) → Fits e → read_endpoint (endpoint_coding e ++ rest) ≡ read e rest
     complete e rest fits =
         let long = length_of_endpoint e fits in
         let k = 4096 - length (endpoint_coding e) in
-        let whole : most_bytes ≡ length (endpoint_coding e) + k = omega arith in
+        let whole : MOST_ENDPOINT_BYTES ≡ length (endpoint_coding e) + k = omega arith in
         let bytes = endpoint_coding e ++ rest in
-        let front : take most_bytes bytes ≡ endpoint_coding e ++ take k rest = ap (λ (n : ℕ). take n bytes) whole ∙ take-append-add (endpoint_coding e) rest k in
-        let behind : drop most_bytes bytes ≡ drop k rest = ap (λ (n : ℕ). drop n bytes) whole ∙ drop-append-add (endpoint_coding e) rest k in
+        let front : take MOST_ENDPOINT_BYTES bytes ≡ endpoint_coding e ++ take k rest = ap (λ (n : ℕ). take n bytes) whole ∙ take-append-add (endpoint_coding e) rest k in
+        let behind : drop MOST_ENDPOINT_BYTES bytes ≡ drop k rest = ap (λ (n : ℕ). drop n bytes) whole ∙ drop-append-add (endpoint_coding e) rest k in
         ap (λ (xs : List ℕ). of_front bytes (read_any_endpoint xs)) front
         ∙ ap (of_front bytes) (exact_any_endpoint.complete e (take k rest) (in_its_ranges e fits))
-        ∙ passes is_fit e bytes (take k rest ++ drop most_bytes bytes) (tests_by_fits e fits)
+        ∙ passes fits_endpoint e bytes (take k rest ++ drop MOST_ENDPOINT_BYTES bytes) (tests_by_fits e fits)
         ∙ ap (λ (xs : List ℕ). read e xs) (ap (λ (xs : List ℕ). take k rest ++ xs) behind ∙ take-append-drop k rest)
 
 exact_upward : IsExact read_upward upward_coding (λ upward. any upward.0 × Fits upward.1)
@@ -401,22 +404,22 @@ only_memory bytes r (fault.Short place) in_range is e = let ok = ap reading is �
 -- ---- for the code
 
 -- an endpoint, read within the most bytes that it may have
-pub within_front : (bytes front rest skipped : List ℕ) (e : Epr) → front ≡ take most_bytes bytes → IsBytes front → read_any_endpoint front ≡ read e rest
-    → (length rest ≤ length front) × ((length front ≤ length bytes) × (skipped ≡ drop (length front - length rest) bytes → read_endpoint bytes ≡ tested is_fit bytes e skipped))
+pub within_front : (bytes front rest skipped : List ℕ) (e : Epr) → front ≡ take MOST_ENDPOINT_BYTES bytes → IsBytes front → read_any_endpoint front ≡ read e rest
+    → (length rest ≤ length front) × ((length front ≤ length bytes) × (skipped ≡ drop (length front - length rest) bytes → read_endpoint bytes ≡ tested fits_endpoint bytes e skipped))
 within_front bytes front rest skipped e is are on =
     let here = exact_any_endpoint.sound front rest e are on in
     let split = ap length here.1 ∙ length-append (endpoint_coding e) rest in
-    let all : bytes ≡ endpoint_coding e ++ (rest ++ drop most_bytes bytes) =
-    sym (take-append-drop most_bytes bytes) ∙ ap (λ (xs : List ℕ). xs ++ drop most_bytes bytes) (sym is ∙ here.1) ∙ append_assoc (endpoint_coding e) rest (drop most_bytes bytes) in
-    let long = ap length all ∙ length-append (endpoint_coding e) (rest ++ drop most_bytes bytes) ∙ ap (λ (n : ℕ). length (endpoint_coding e) + n) (length-append rest (drop most_bytes bytes)) in
+    let all : bytes ≡ endpoint_coding e ++ (rest ++ drop MOST_ENDPOINT_BYTES bytes) =
+    sym (take-append-drop MOST_ENDPOINT_BYTES bytes) ∙ ap (λ (xs : List ℕ). xs ++ drop MOST_ENDPOINT_BYTES bytes) (sym is ∙ here.1) ∙ append_assoc (endpoint_coding e) rest (drop MOST_ENDPOINT_BYTES bytes) in
+    let long = ap length all ∙ length-append (endpoint_coding e) (rest ++ drop MOST_ENDPOINT_BYTES bytes) ∙ ap (λ (n : ℕ). length (endpoint_coding e) + n) (length-append rest (drop MOST_ENDPOINT_BYTES bytes)) in
     let taken : length front - length rest ≡ length (endpoint_coding e) = omega arith in
-    let behind : drop (length (endpoint_coding e)) bytes ≡ rest ++ drop most_bytes bytes =
-    ap (drop (length (endpoint_coding e))) all ∙ drop-append_seam (endpoint_coding e) (rest ++ drop most_bytes bytes) in (
+    let behind : drop (length (endpoint_coding e)) bytes ≡ rest ++ drop MOST_ENDPOINT_BYTES bytes =
+    ap (drop (length (endpoint_coding e))) all ∙ drop-append_seam (endpoint_coding e) (rest ++ drop MOST_ENDPOINT_BYTES bytes) in (
       omega arith,
       (
         omega arith,
         λ skip.
             ap (λ (xs : List ℕ). of_front bytes (read_any_endpoint xs)) (sym is) ∙ ap (of_front bytes) on
-            ∙ ap (λ (xs : List ℕ). tested is_fit bytes e xs) (sym behind ∙ ap (λ (n : ℕ). drop n bytes) (sym taken) ∙ sym skip),
+            ∙ ap (λ (xs : List ℕ). tested fits_endpoint bytes e xs) (sym behind ∙ ap (λ (n : ℕ). drop n bytes) (sym taken) ∙ sym skip),
       ),
     )

@@ -1,15 +1,16 @@
 -- Trees are read back from their codings, up to any number of levels.
 use Rattle.std.proofs.Common.{◌≡◌, ℕ, zero, suc, ◌^◌, ◌<◌, ◌⊎◌, inl, inr, List, ◌∷◌, ◌++◌, length, map, ap, refl, sym, ◌∙◌, subst, append_assoc}
+use Rattle.ba_message.specs.declared.endpoints.TheConstants.{MOST_ENDPOINT_BYTES}
 use Rattle.std.specs.Int.{w8, w16, to_le_bytes}
 use Rattle.ba_tree.specs.declared.trees.Name.{Name}
 use Rattle.ba_tree.specs.declared.trees.Attribute.{Attribute}
 use Rattle.ba_tree.specs.declared.trees.Tree.{Tree}
 use Rattle.ba_tree.specs.declared.trees.Content.{Content}
 use Rattle.ba_tree.specs.declared.trees.Content.TheVariants.{Child, Text}
-use Rattle.ba_tree.specs.declared.endpoints.Epr.{Epr}
+use Rattle.ba_message.specs.declared.endpoints.Epr.{Epr}
 use Rattle.ba_tree.specs.Trees.{joined}
 use Rattle.ba_record.specs.Coding.{string_coding, name_coding, attribute_coding, content_coding, tree_coding, endpoint_coding}
-use Rattle.ba_record.specs.Reading.{IsBytes, Reading, read, onward, read_name, read_attribute, read_attributes, content_of, read_content, read_contents, read_element, read_tree, most_bytes, read_any_endpoint}
+use Rattle.ba_record.specs.Reading.{IsBytes, Reading, read, onward, read_name, read_attribute, read_attributes, content_of, read_content, read_contents, read_element, read_tree, read_any_endpoint}
 use Rattle.ba_record.proofs.Exact.{IsExact, went, goes, exact_byte, exact_count, exact_16, exact_string, exact_pair, exact_counted, IsString, Each}
 use Rattle.ba_record.proofs.Trees.{child_coding, text_coding, tree_is}
 
@@ -143,8 +144,8 @@ exact_tree zero = record { sound = λ bytes rest t are e. absurd (cc); complete 
 exact_tree (suc levels) = exact_element (exact_tree levels)
 
 abbrev pub IsEndpoint : Epr → Type 0
-IsEndpoint e = IsString e.address × ((length e.parameters < 256) × Each (IsTree most_bytes) e.parameters)
+IsEndpoint e = IsString e.address × ((length e.parameters < 256) × Each (IsTree MOST_ENDPOINT_BYTES) e.parameters)
 
 pub exact_any_endpoint : IsExact read_any_endpoint endpoint_coding IsEndpoint
-exact_any_endpoint = exact_pair exact_string (exact_counted (exact_tree most_bytes) 256 exact_count)
+exact_any_endpoint = exact_pair exact_string (exact_counted (exact_tree MOST_ENDPOINT_BYTES) 256 exact_count)
     (λ address parameters. record { address = address; parameters = parameters }) (λ (e : Epr). e.address) (λ (e : Epr). e.parameters) (λ e. refl) (λ a b. refl) (λ a b. refl)

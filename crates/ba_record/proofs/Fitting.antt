@@ -1,30 +1,20 @@
 -- An endpoint that fits has every length and count in its range, and the test of it tells so.
-use Rattle.std.proofs.Common.{◌≡◌, ℕ, zero, suc, ◌^◌, ◌<◌, ◌≤◌, ◌⊎◌, inl, inr, Bool, true, nat_le, List, [], ◌∷◌, ◌++◌, length, map, ap, refl, sym, ◌∙◌, subst, arith}
-use Rattle.std.proofs.lemmas.Bool.{leb-true, le-leb}
+use Rattle.std.proofs.Common.{◌≡◌, ℕ, zero, suc, ◌^◌, ◌<◌, ◌≤◌, inl, inr, true, nat_le, List, [], ◌∷◌, ◌++◌, length, map, ap, ◌∙◌, subst, arith}
+use Rattle.ba_tree.proofs.TreeLaws.{content_is}
+use Rattle.std.proofs.lemmas.Bool.{leb-true}
 use Rattle.std.proofs.lemmas.List.Sums.{sum_by-cons}
 use Rattle.std.specs.Cmp.{first_so, second_so}
 use Rattle.std.specs.List.{list_all, sum_by}
 use Rattle.ba_tree.specs.declared.trees.Attribute.{Attribute}
 use Rattle.ba_tree.specs.declared.trees.Tree.{Tree}
 use Rattle.ba_tree.specs.declared.trees.Content.{Content}
-use Rattle.ba_tree.specs.declared.trees.Content.TheOpen as o
-use Rattle.ba_tree.specs.declared.trees.Content.TheViews as v
-use Rattle.ba_tree.specs.declared.trees.Content.TheVariants.{Child, Text, rolls-Child, rolls-Text}
-use Rattle.ba_tree.specs.declared.endpoints.Epr.{Epr}
+use Rattle.ba_message.specs.declared.endpoints.Epr.{Epr}
 use Rattle.ba_tree.specs.Trees.{Element, joined, greatest, elements, within, most_attributes}
-use Rattle.ba_tree.specs.Endpoints.{Fits, all_namespaces, endpoint_length, tree_length, part_length, attribute_length}
+use Rattle.ba_tree.specs.Lengths.{tree_length, part_length, attribute_length}
+use Rattle.ba_message.specs.Endpoints.{Fits}
 use Rattle.ba_tree.proofs.TreeLaws.{elements_in, within_child, length_in, length_text, length_child}
-use Rattle.ba_record.specs.Endpoints.{is_fit, fit_tests, all_true}
 use Rattle.ba_record.proofs.Exact.{Each}
 use Rattle.ba_record.proofs.ExactTrees.{IsAttribute, IsContent, IsTree, IsEndpoint}
-
--- content is a text or a tree
-content_from : (layer : o.Content-F Content Tree) (c : Content) → v.out-Content c ≡ layer → ((text : List ℕ) × (c ≡ Text text)) ⊎ ((tree : Tree) × (c ≡ Child tree))
-content_from (o.Content-F.Text text) c e = inl (text, sym (v.roll-out-Content c) ∙ ap v.roll-Content e ∙ rolls-Text text)
-content_from (o.Content-F.Child tree) c e = inr (tree, sym (v.roll-out-Content c) ∙ ap v.roll-Content e ∙ rolls-Child tree)
-
-pub content_is : (c : Content) → ((text : List ℕ) × (c ≡ Text text)) ⊎ ((tree : Tree) × (c ≡ Child tree))
-content_is c = content_from (v.out-Content c) c refl
 
 -- the attributes of each of these elements are at most 16
 abbrev FewAttributes : List Element → Type 0
@@ -111,44 +101,3 @@ pub in_its_ranges : (e : Epr) → Fits e → IsEndpoint e
 in_its_ranges e fits =
     let size = fits.size in
     (omega arith, (omega (arith, fits.count), trees_in 4096 e.parameters (omega arith) (omega arith) fits.attributes))
-
-pub each_true : (tests : List Bool) → all_true tests ≡ true → Each (λ test. test ≡ true) tests
-each_true [] h = tt
-each_true (test ∷ tests) h = (first_so test (all_true tests) h, each_true tests (second_so test (all_true tests) h))
-
-pub all_are : (tests : List Bool) → Each (λ test. test ≡ true) tests → all_true tests ≡ true
-all_are [] h = refl
-all_are (test ∷ tests) h = rw (h.0) (all_are tests h.1)
-
-pub fits_by_tests : (e : Epr) → is_fit e ≡ true → Fits e
-unfolding is_fit
-fits_by_tests e h =
-    let t = each_true (fit_tests e) h in
-    record {
-      size = leb-true (endpoint_length e) 4096 t.0;
-      count = leb-true (length e.parameters) 8 t.1.0;
-      depth = t.1.1.0;
-      attributes = t.1.1.1.0;
-      spaces = leb-true (length (all_namespaces e.parameters)) 16 t.1.1.1.1.0;
-      named = leb-true 1 (length e.address) t.1.1.1.1.1.0;
-      bare = t.1.1.1.1.1.1.0;
-      legal = t.1.1.1.1.1.1.1.0;
-      fit = t.1.1.1.1.1.1.1.1.0;
-      unmarked = t.1.1.1.1.1.1.1.1.1.0;
-    }
-
-pub tests_by_fits : (e : Epr) → Fits e → is_fit e ≡ true
-unfolding is_fit
-tests_by_fits e fits = all_are (fit_tests e) (
-  le-leb (endpoint_length e) 4096 fits.size,
-  (
-    le-leb (length e.parameters) 8 fits.count,
-    (
-      fits.depth,
-      (
-        fits.attributes,
-        (le-leb (length (all_namespaces e.parameters)) 16 fits.spaces, (le-leb 1 (length e.address) fits.named, (fits.bare, (fits.legal, (fits.fit, (fits.unmarked, tt)))))),
-      ),
-    ),
-  ),
-)

@@ -1,5 +1,6 @@
 -- A coding is as long as the length that is told of it.
 use Rattle.std.proofs.Common.{◌≡◌, ℕ, zero, suc, ◌≤◌, inl, inr, List, [], ◌∷◌, ◌++◌, length, map, ap, refl, ◌∙◌, arith, length-append}
+use Rattle.ba_tree.proofs.TreeLaws.{content_is}
 use Rattle.std.proofs.lemmas.List.Sums.{sum_by-cons}
 use Rattle.std.specs.Int.{w8, w16, to_le_bytes}
 use Rattle.std.specs.List.{sum_by}
@@ -7,12 +8,12 @@ use Rattle.ba_tree.specs.declared.trees.Name.{Name}
 use Rattle.ba_tree.specs.declared.trees.Attribute.{Attribute}
 use Rattle.ba_tree.specs.declared.trees.Tree.{Tree}
 use Rattle.ba_tree.specs.declared.trees.Content.{Content}
-use Rattle.ba_tree.specs.declared.endpoints.Epr.{Epr}
+use Rattle.ba_message.specs.declared.endpoints.Epr.{Epr}
 use Rattle.ba_tree.specs.Trees.{joined}
-use Rattle.ba_tree.specs.Endpoints.{endpoint_length, tree_length, part_length, name_length, attribute_length}
+use Rattle.ba_tree.specs.Lengths.{tree_length, part_length, name_length, attribute_length}
+use Rattle.ba_message.specs.Endpoints.{endpoint_length}
 use Rattle.ba_tree.proofs.TreeLaws.{length_in, length_text, length_child}
 use Rattle.ba_record.specs.Coding.{string_coding, name_coding, attribute_coding, content_coding, tree_coding, endpoint_coding}
-use Rattle.ba_record.proofs.Fitting.{content_is}
 use Rattle.ba_record.proofs.Trees.{child_coding, text_coding, tree_is}
 
 name_is_long : (n : Name) → length (name_coding n) ≡ name_length n

@@ -1,9 +1,11 @@
 -- More bytes than any record has are refused by their front.
 use Rattle.std.proofs.Common.{◌≡◌, ◌≢◌, ◌⊎◌, inl, inr, ℕ, zero, suc, ◌+◌, ◌-◌, ◌^◌, ◌<◌, ◌≤◌, Bool, true, false, ◌&&◌, nat_le, nat_eq, if◌then◌else◌, Option, None, Some, Ok, Err, List, [], ◌∷◌, ◌++◌, length, take, drop, refl, sym, ap, ◌∙◌, subst, append_assoc, arith, length-append, length-drop}
+use Rattle.ba_message.specs.Endpoints.{fits_endpoint}
+use Rattle.ba_message.specs.declared.endpoints.TheConstants.{MOST_ENDPOINT_BYTES}
 use Rattle.std.proofs.lemmas.Bool.{le-leb}
 use Rattle.std.proofs.lemmas.List.{take-append-drop, take-append-le, drop-append-le, length-take-le}
 use Rattle.std.specs.Int.{w16, w32, w64, from_le_bytes}
-use Rattle.ba_tree.specs.declared.endpoints.Epr.{Epr}
+use Rattle.ba_message.specs.declared.endpoints.Epr.{Epr}
 use Rattle.ba_record.specs.declared.records.Record.{Record}
 use Rattle.ba_record.specs.declared.records.Record.TheVariants.{Node, Scope, End, Part, Enrolled, Refused, Received, Acted, Decided, Chosen, Ticked, Asked}
 use Rattle.ba_record.specs.declared.records.RecordFault.TheVariants.{BadKind, BadField}
@@ -13,8 +15,8 @@ use Rattle.ba_core.specs.declared.protocols.Kind.TheVariants.{Atomic, Mixed}
 use Rattle.ba_core.specs.declared.protocols.Protocol.TheVariants.{Pc, Cc}
 use Rattle.ba_core.specs.declared.protocols.Verdict.TheVariants.{Close, Undo}
 use Rattle.ba_record.specs.Coding.{endpoint_coding, kind_code, protocol_code, verdict_code, act_code}
-use Rattle.ba_record.specs.Endpoints.{is_fit, is_base}
-use Rattle.ba_record.specs.Reading.{IsBytes, Reading, read, bad, short, onward, tested, found, read_byte, read_front, read_number, read_string, with_code, read_coded, read_from_1, read_counter, read_node_number, read_base, optional, read_option, most_bytes, read_any_endpoint, of_front, read_endpoint, read_protocol, read_kind, read_notice, read_act, read_verdict, plain_notices, read_upward, read_node, read_scope, read_end, read_part, read_enrolled, read_refused, read_received, read_acted, read_decided, read_chosen, read_ticked, read_asked, whole, read_record, is_kind, told, reading}
+use Rattle.ba_record.specs.Endpoints.{is_base}
+use Rattle.ba_record.specs.Reading.{IsBytes, Reading, read, bad, short, onward, tested, found, read_byte, read_front, read_number, read_string, with_code, read_coded, read_from_1, read_counter, read_node_number, read_base, optional, read_option, read_any_endpoint, of_front, read_endpoint, read_protocol, read_kind, read_notice, read_act, read_verdict, plain_notices, read_upward, read_node, read_scope, read_end, read_part, read_enrolled, read_refused, read_received, read_acted, read_decided, read_chosen, read_ticked, read_asked, whole, read_record, is_kind, told, reading}
 use Rattle.ba_record.proofs.Exact.{bytes_after, front_bytes, exact_16}
 use Rattle.ba_record.proofs.ExactTrees.{exact_any_endpoint}
 
@@ -178,29 +180,29 @@ option_decides value n first = record { by = by_option }
 
 -- ---- endpoints
 
-endpoint_alike : (front more : List ℕ) (x : Reading Epr) → read_any_endpoint (take most_bytes front) ≡ x → IsBytes front → most_bytes ≤ length front
-    → Alike most_bytes front more (of_front front x) (of_front (front ++ more) x)
+endpoint_alike : (front more : List ℕ) (x : Reading Epr) → read_any_endpoint (take MOST_ENDPOINT_BYTES front) ≡ x → IsBytes front → MOST_ENDPOINT_BYTES ≤ length front
+    → Alike MOST_ENDPOINT_BYTES front more (of_front front x) (of_front (front ++ more) x)
 endpoint_alike front more (read e rest) is are enough =
-    let here = exact_any_endpoint.sound (take most_bytes front) rest e (front_bytes most_bytes front are) is in
-    let behind : drop most_bytes (front ++ more) ≡ drop most_bytes front ++ more = drop-append-le most_bytes front more enough in
-    let all : front ≡ endpoint_coding e ++ (rest ++ drop most_bytes front) =
-    sym (take-append-drop most_bytes front) ∙ ap (λ (xs : List ℕ). xs ++ drop most_bytes front) here.1 ∙ append_assoc (endpoint_coding e) rest (drop most_bytes front) in
-    subst (λ (xs : List ℕ). Alike most_bytes front more (tested is_fit front e (rest ++ drop most_bytes front)) (tested is_fit (front ++ more) e xs))
-    (append_assoc rest (drop most_bytes front) more ∙ ap (λ (xs : List ℕ). rest ++ xs) (sym behind))
-    (tested_alike is_fit most_bytes front more e (rest ++ drop most_bytes front) (is_fit e) refl
-    (omega (arith, length-append rest (drop most_bytes front), length-drop most_bytes front))
-    (bytes_after (endpoint_coding e) (rest ++ drop most_bytes front) front are all))
+    let here = exact_any_endpoint.sound (take MOST_ENDPOINT_BYTES front) rest e (front_bytes MOST_ENDPOINT_BYTES front are) is in
+    let behind : drop MOST_ENDPOINT_BYTES (front ++ more) ≡ drop MOST_ENDPOINT_BYTES front ++ more = drop-append-le MOST_ENDPOINT_BYTES front more enough in
+    let all : front ≡ endpoint_coding e ++ (rest ++ drop MOST_ENDPOINT_BYTES front) =
+    sym (take-append-drop MOST_ENDPOINT_BYTES front) ∙ ap (λ (xs : List ℕ). xs ++ drop MOST_ENDPOINT_BYTES front) here.1 ∙ append_assoc (endpoint_coding e) rest (drop MOST_ENDPOINT_BYTES front) in
+    subst (λ (xs : List ℕ). Alike MOST_ENDPOINT_BYTES front more (tested fits_endpoint front e (rest ++ drop MOST_ENDPOINT_BYTES front)) (tested fits_endpoint (front ++ more) e xs))
+    (append_assoc rest (drop MOST_ENDPOINT_BYTES front) more ∙ ap (λ (xs : List ℕ). rest ++ xs) (sym behind))
+    (tested_alike fits_endpoint MOST_ENDPOINT_BYTES front more e (rest ++ drop MOST_ENDPOINT_BYTES front) (fits_endpoint e) refl
+    (omega (arith, length-append rest (drop MOST_ENDPOINT_BYTES front), length-drop MOST_ENDPOINT_BYTES front))
+    (bytes_after (endpoint_coding e) (rest ++ drop MOST_ENDPOINT_BYTES front) front are all))
 endpoint_alike front more (bad from) is are enough = inr record { from = front; here = refl; longer = refl }
 endpoint_alike front more short is are enough =
-    let first : nat_le most_bytes (length front) ≡ true = le-leb most_bytes (length front) enough in
-    let second : nat_le most_bytes (length (front ++ more)) ≡ true = le-leb most_bytes (length (front ++ more)) (omega (arith, enough, length-append front more)) in
+    let first : nat_le MOST_ENDPOINT_BYTES (length front) ≡ true = le-leb MOST_ENDPOINT_BYTES (length front) enough in
+    let second : nat_le MOST_ENDPOINT_BYTES (length (front ++ more)) ≡ true = le-leb MOST_ENDPOINT_BYTES (length (front ++ more)) (omega (arith, enough, length-append front more)) in
     inr record { from = front; here = ap (λ t. if t then bad front else short) first; longer = ap (λ t. if t then bad (front ++ more) else short) second }
 
 endpoint_decides : Decides read_endpoint 4096
 endpoint_decides = record {
   by = λ front more are enough.
-      subst (λ (xs : List ℕ). Alike most_bytes front more (read_endpoint front) (of_front (front ++ more) (read_any_endpoint xs))) (sym (take-append-le most_bytes front more enough))
-      (endpoint_alike front more (read_any_endpoint (take most_bytes front)) refl are enough);
+      subst (λ (xs : List ℕ). Alike MOST_ENDPOINT_BYTES front more (read_endpoint front) (of_front (front ++ more) (read_any_endpoint xs))) (sym (take-append-le MOST_ENDPOINT_BYTES front more enough))
+      (endpoint_alike front more (read_any_endpoint (take MOST_ENDPOINT_BYTES front)) refl are enough);
 }
 
 protocol_decides : Decides read_protocol 1

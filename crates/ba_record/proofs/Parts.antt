@@ -4,8 +4,9 @@ use Rattle.std.proofs.Math.Seq.{drop-cons, drop-length}
 use Rattle.ba_tree.specs.declared.trees.Tree.{Tree}
 use Rattle.ba_tree.specs.declared.trees.Content.{Content}
 use Rattle.ba_tree.specs.declared.trees.Content.TheVariants.{Child, Text}
-use Rattle.ba_tree.specs.declared.endpoints.Epr.{Epr}
-use Rattle.ba_tree.specs.Endpoints.{Fits, in_u64, endpoint_length}
+use Rattle.ba_message.specs.declared.endpoints.Epr.{Epr}
+use Rattle.ba_tree.specs.Lengths.{in_u64}
+use Rattle.ba_message.specs.Endpoints.{Fits, endpoint_length}
 use Rattle.ba_tree.specs.Trees.{joined}
 use Rattle.ba_record.specs.Coding.{content_coding, tree_coding, string_coding, endpoint_coding}
 use Rattle.ba_record.specs.Endpoints.{IsBase}

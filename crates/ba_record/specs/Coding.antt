@@ -1,4 +1,4 @@
--- The one coding of numbers, strings, trees, endpoints and records. Numbers are written lowest byte first.
+-- Believe: the one coding of numbers, strings, trees, endpoints and records. Numbers are written lowest byte first.
 use Rattle.std.specs.Prelude.{ℕ, ◌<◌, ◌≤◌, ◌^◌, List, [], ◌∷◌, ◌++◌, length, map, Option, None, Some}
 use Rattle.std.specs.Int.{w8, w16, w32, w64, to_le_bytes}
 use Rattle.ba_core.specs.declared.notices.Act.{Act}
@@ -16,8 +16,8 @@ use Rattle.ba_tree.specs.declared.trees.Content.{Content}
 use Rattle.ba_tree.specs.declared.trees.Content.TheOpen.{Content-F, Tree-F}
 use Rattle.ba_tree.specs.declared.trees.Content.TheFolds.{fold-Content, fold-Tree}
 use Rattle.ba_core.specs.Messages.{notice_code}
-use Rattle.ba_tree.specs.declared.endpoints.Epr.{Epr}
-use Rattle.ba_tree.specs.Endpoints.{Fits}
+use Rattle.ba_message.specs.declared.endpoints.Epr.{Epr}
+use Rattle.ba_message.specs.Endpoints.{Fits}
 use Rattle.ba_tree.specs.Trees.{joined}
 use Rattle.ba_record.specs.Endpoints.{IsBase}
 use Rattle.ba_record.specs.declared.records.Record.{Record}

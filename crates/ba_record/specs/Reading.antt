@@ -1,6 +1,8 @@
--- What bytes are read as: one field after another, up to the first that is outside its range or that the bytes
+-- Believe: what bytes are read as: one field after another, up to the first that is outside its range or that the bytes
 -- don't hold whole.
 use Rattle.std.specs.Prelude.{◌≡◌, ℕ, zero, suc, ◌-◌, ◌<◌, slice_index, Bool, true, false, ◌&&◌, if◌then◌else◌, nat_le, nat_eq, Option, None, Some, Result, Ok, Err, List, [], ◌∷◌, ◌++◌, length, take, drop}
+use Rattle.ba_message.specs.Endpoints.{fits_endpoint}
+use Rattle.ba_message.specs.declared.endpoints.TheConstants.{MOST_ENDPOINT_BYTES}
 use Rattle.std.specs.Int.{Width, w16, w32, w64, byte_len, from_le_bytes}
 use Rattle.ba_core.specs.declared.notices.Act.{Act}
 use Rattle.ba_core.specs.declared.notices.Act.TheVariants as act
@@ -18,7 +20,7 @@ use Rattle.ba_tree.specs.declared.trees.Tree.{Tree}
 use Rattle.ba_tree.specs.declared.trees.Content.{Content}
 use Rattle.ba_tree.specs.declared.trees.Content.TheVariants.{Child, Text}
 use Rattle.ba_core.specs.Messages.{notice_code}
-use Rattle.ba_tree.specs.declared.endpoints.Epr.{Epr}
+use Rattle.ba_message.specs.declared.endpoints.Epr.{Epr}
 use Rattle.ba_record.specs.declared.fields.FieldFault.{FieldFault}
 use Rattle.ba_record.specs.declared.fields.FieldFault.TheVariants as fault
 use Rattle.ba_record.specs.declared.records.Record.{Record}
@@ -27,7 +29,7 @@ use Rattle.ba_record.specs.declared.records.RecordFault.{RecordFault}
 use Rattle.ba_record.specs.declared.records.RecordFault.TheVariants.{BadKind, BadField, Short}
 use Rattle.ba_record.specs.declared.records.RecordFault.TheVariants as why_not
 use Rattle.ba_record.specs.Coding.{kind_code, protocol_code, verdict_code, act_code}
-use Rattle.ba_record.specs.Endpoints.{is_fit, is_base}
+use Rattle.ba_record.specs.Endpoints.{is_base}
 
 -- the numbers are bytes
 abbrev pub IsBytes : List ℕ → Type 0
@@ -178,26 +180,22 @@ read_tree (suc levels) bytes = read_element (read_tree levels) bytes
 
 -- ---- endpoints
 
--- an endpoint's coding has at most so many bytes
-abbrev pub most_bytes : ℕ
-most_bytes = 4096
-
 -- the address, a count of one byte and the parameters, whether or not it fits
 abbrev pub read_any_endpoint : List ℕ → Reading Epr
 read_any_endpoint bytes =
     onward (read_string bytes) (λ address rest.
-    onward (onward (read_byte rest) (read_many (read_tree most_bytes))) (λ parameters after.
+    onward (onward (read_byte rest) (read_many (read_tree MOST_ENDPOINT_BYTES))) (λ parameters after.
     read (record { address = address; parameters = parameters }) after))
 
 -- what an endpoint's most bytes say of it: it is bad at its first byte, whatever is wrong in it, and where they
 -- are all there and it doesn't end within them
 abbrev pub of_front : List ℕ → Reading Epr → Reading Epr
-of_front bytes (read epr rest) = tested is_fit bytes epr (rest ++ drop most_bytes bytes)
+of_front bytes (read epr rest) = tested fits_endpoint bytes epr (rest ++ drop MOST_ENDPOINT_BYTES bytes)
 of_front bytes (bad from) = bad bytes
-of_front bytes short = if nat_le most_bytes (length bytes) then bad bytes else short
+of_front bytes short = if nat_le MOST_ENDPOINT_BYTES (length bytes) then bad bytes else short
 
 abbrev pub read_endpoint : List ℕ → Reading Epr
-read_endpoint bytes = of_front bytes (read_any_endpoint (take most_bytes bytes))
+read_endpoint bytes = of_front bytes (read_any_endpoint (take MOST_ENDPOINT_BYTES bytes))
 
 abbrev pub read_upward : List ℕ → Reading (Protocol × Epr)
 read_upward bytes = onward (read_protocol bytes) (λ protocol rest. onward (read_endpoint rest) (λ registration after. read (protocol, registration) after))

@@ -1,4 +1,4 @@
--- A row of bytes with a room that is taken beforehand.
+-- Believe: a row of bytes with a room that is taken beforehand.
 use Rattle.std.specs.Prelude.{ℕ, ◌-◌, List, ◌++◌, length, take}
 
 -- the bytes that it keeps, and how many it may keep

@@ -1,17 +1,17 @@
 //! Trees and endpoints, read field after field.
 ghost use Rattle.std.specs.Prelude.{◌≡◌, take, IfOk, IfErr};
+ghost use Rattle.ba_message.specs.Endpoints.{fits_endpoint};
 ghost use Rattle.ba_record.specs.Reading.{onward, read_byte, read_many};
 ghost use Rattle.ba_record.specs.Reading.{read, Explains, read_name, read_attribute, read_attributes, read_content, read_contents, read_tree};
-ghost use Rattle.ba_record.specs.Reading.{IsBytes, most_bytes, read_any_endpoint, read_endpoint, read_upward, read_option, of_front, short, tested};
-ghost use Rattle.ba_record.specs.Endpoints.{is_fit};
+ghost use Rattle.ba_record.specs.Reading.{IsBytes, read_any_endpoint, read_endpoint, read_upward, read_option, of_front, short, tested};
 
 use crate::endpoints::endpoint_fits;
 use crate::fields::{FieldFault, Fields, octets};
 use ba_core::{List, Octets, Protocol};
-use ba_tree::{Attribute, Content, Epr, Name, Tree};
+use ba_message::{Epr, MOST_ENDPOINT_BYTES};
+use ba_tree::{Attribute, Content, Name, Namespace, Tree};
 
-/// An endpoint's coding has at most so many bytes.
-pub const MOST_BYTES: usize = 4096;
+const MOST_BYTES: usize = MOST_ENDPOINT_BYTES as usize;
 
 impl<'a> Fields<'a> {
     #[tactic(auto, using(crate::proofs::Onward::explained_onward))]
@@ -19,7 +19,10 @@ impl<'a> Fields<'a> {
         ensures ok { IfOk result (λ name. read_name self.old.rest.now ≡ read name self.new.rest.now) }
         ensures fault { IfErr result (Explains (read_name self.old.rest.now) self.new.rest.now) }
     {
-        let space = self.string()?;
+        let bytes = self.string()?;
+        let Ok(space) = Namespace::of(self.alloc, bytes) else {
+            return Err(FieldFault::Memory);
+        };
         let local = self.string()?;
         Ok(Name { space, local })
     }
@@ -103,8 +106,8 @@ impl<'a> Fields<'a> {
 
     #[tactic(auto, using(crate::proofs::Onward::explained_onward, crate::proofs::Onward::many_goes_on, crate::proofs::Onward::many_stops, crate::proofs::Onward::many_ends, crate::proofs::Onward::many_begin))]
     fn parameters(&mut self) -> Result<List<Tree>, FieldFault>
-        ensures ok { IfOk result (λ parameters. onward (read_byte self.old.rest.now) (read_many (read_tree most_bytes)) ≡ read parameters self.new.rest.now) }
-        ensures fault { IfErr result (Explains (onward (read_byte self.old.rest.now) (read_many (read_tree most_bytes))) self.new.rest.now) }
+        ensures ok { IfOk result (λ parameters. onward (read_byte self.old.rest.now) (read_many (read_tree MOST_ENDPOINT_BYTES)) ≡ read parameters self.new.rest.now) }
+        ensures fault { IfErr result (Explains (onward (read_byte self.old.rest.now) (read_many (read_tree MOST_ENDPOINT_BYTES))) self.new.rest.now) }
     {
         let count = self.byte()?;
         let mut parameters = List::new(self.alloc);
@@ -153,8 +156,8 @@ impl<'a> Fields<'a> {
 
     // The endpoint, which began where these bytes do, if it fits.
     fn fitting(&mut self, epr: Epr, field: &'a [u8]) -> Result<Epr, FieldFault>
-        ensures ok { IfOk result (λ same. tested is_fit field.now epr self.old.rest.now ≡ read same self.new.rest.now) }
-        ensures fault { IfErr result (Explains (tested is_fit field.now epr self.old.rest.now) self.new.rest.now) }
+        ensures ok { IfOk result (λ same. tested fits_endpoint field.now epr self.old.rest.now ≡ read same self.new.rest.now) }
+        ensures fault { IfErr result (Explains (tested fits_endpoint field.now epr self.old.rest.now) self.new.rest.now) }
     {
         if endpoint_fits(&epr) {
             return Ok(epr);
@@ -199,7 +202,7 @@ impl<'a> Fields<'a> {
 
 // The first bytes, as many as an endpoint may have at most.
 fn most_of(bytes: &[u8]) -> &[u8]
-    ensures front { result.now ≡ take most_bytes bytes.now }
+    ensures front { result.now ≡ take MOST_ENDPOINT_BYTES bytes.now }
     ensures bytes { IsBytes result.now }
 {
     if bytes.len() < MOST_BYTES {

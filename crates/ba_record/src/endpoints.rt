@@ -1,12 +1,13 @@
 //! The tests that an endpoint and a base must pass.
 ghost use Rattle.std.specs.Prelude.{◌≡◌};
-ghost use Rattle.ba_record.specs.Endpoints.{is_fit, is_base};
+ghost use Rattle.ba_message.specs.Endpoints.{fits_endpoint};
+ghost use Rattle.ba_record.specs.Endpoints.{is_base};
 
-use ba_tree::{Epr, dialable};
+use ba_message::{Epr, dialable};
 
 /// Whether the endpoint fits.
 pub fn endpoint_fits(epr: &Epr) -> bool
-    ensures { result ≡ is_fit epr.now }
+    ensures { result ≡ fits_endpoint epr.now }
 {
     epr.fits()
 }

@@ -1,6 +1,6 @@
 //! What a node keeps in its journal, one record for each step.
 use ba_core::{Act, Kind, Notice, Octets, Protocol, Verdict};
-use ba_tree::Epr;
+use ba_message::Epr;
 use thiserror::Error;
 
 /// One step of a node. A counter is the number of a scope, an end or a part among the objects of its

@@ -1,12 +1,13 @@
 //! How long a record's coding is.
 ghost use Rattle.std.specs.Prelude.{◌≡◌, ◌≤◌, length};
+ghost use Rattle.ba_message.specs.declared.endpoints.TheConstants.{MOST_ENDPOINT_BYTES};
 ghost use Rattle.std.specs.Int.{w64, to_le_bytes};
-ghost use Rattle.ba_tree.specs.Endpoints.{Fits};
+ghost use Rattle.ba_message.specs.Endpoints.{Fits};
 ghost use Rattle.ba_record.specs.Coding.{coding, InRange, IsUpward, endpoint_coding, option_coding, upward_coding};
 
 use crate::records::Record;
 use ba_core::Protocol;
-use ba_tree::Epr;
+use ba_message::Epr;
 
 /// The length of the record's coding, in bytes.
 #[tactic(auto, using(crate::proofs::Parts::scope_length, crate::proofs::Parts::base_is_short))]
@@ -56,7 +57,7 @@ fn upward_size(upward: &Option<(Protocol, Epr)>) -> u64
 fn endpoint_size(epr: &Epr) -> u64
     requires { Fits epr.now }
     ensures size { result ≡ length (endpoint_coding epr.now) }
-    ensures small { result ≤ 4096 }
+    ensures small { result ≤ MOST_ENDPOINT_BYTES }
 {
     epr.size()
 }

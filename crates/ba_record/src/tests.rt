@@ -2,7 +2,8 @@
 
 use crate::{Record, RecordFault, Room, get, put, put_in, records_are_read_back, size_of};
 use ba_core::{Act, Kind, List, Memory, Notice, Octets, Protocol, Verdict};
-use ba_tree::{Attribute, Content, Epr, Name, Tree};
+use ba_message::Epr;
+use ba_tree::{Attribute, Content, Name, Namespace, Tree};
 use std::alloc::Global;
 use std::test::Fail;
 
@@ -38,7 +39,7 @@ fn plain(alloc: Global) -> Result<Epr, Memory> {
 
 fn name(alloc: Global, space: &[u8], local: &[u8]) -> Result<Name, Memory> {
     Ok(Name {
-        space: octets(alloc, space)?,
+        space: Namespace::of(alloc, octets(alloc, space)?)?,
         local: octets(alloc, local)?,
     })
 }

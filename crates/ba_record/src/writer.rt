@@ -12,7 +12,8 @@ use crate::records::Record;
 use crate::rooms::Room;
 use crate::sizes::size_of;
 use ba_core::{Act, Kind, List, Memory, Octets, Protocol, Verdict, code_of};
-use ba_tree::{Attribute, Content, Epr, Name, Tree};
+use ba_message::Epr;
+use ba_tree::{Attribute, Content, Name, Namespace, Tree};
 use std::alloc::Global;
 
 /// Puts the record's coding last. After `Memory` nothing has changed.
@@ -197,10 +198,18 @@ fn put_string(out: &mut Room, bytes: &Octets)
     out.put_bytes(bytes.as_slice());
 }
 
+fn put_namespace(out: &mut Room, space: &Namespace)
+    ensures { out.new ≡ filled out.old (string_coding space.now) }
+{
+    let bytes = space.as_slice();
+    put_length(out, bytes.len());
+    out.put_bytes(bytes);
+}
+
 fn put_name(out: &mut Room, name: &Name)
     ensures { out.new ≡ filled out.old (name_coding name.now) }
 {
-    put_string(out, &name.space);
+    put_namespace(out, &name.space);
     put_string(out, &name.local);
 }
 

@@ -4,9 +4,10 @@ use Rattle.std.proofs.lemmas.Bool.Decides.{nat_tests}
 use Rattle.std.proofs.lemmas.List.Folds.{list_any-append}
 use Rattle.std.specs.Cmp.Lexicographic as lexicographic
 use Rattle.std.specs.List.{list_any}
-use Rattle.ba_tree.specs.Trees.{same_text, without, firsts}
+use Rattle.std.specs.Str.{bytes_eq}
+use Rattle.ba_tree.specs.Trees.{without, firsts}
 use Rattle.ba_tree.proofs.SpaceLaws.{append_assoc}
-use Rattle.ba_tree.specs.SpaceRows.{is_noted, go_on, all_noted}
+use Rattle.ba_tree.specs.Spaces.{is_noted, go_on, all_noted}
 
 -- the items that pass
 abbrev keep : (List ℕ → Bool) → List (List ℕ) → List (List ℕ)
@@ -16,23 +17,23 @@ keep p (y ∷ ys) = elim (p y) [ true ↦ y ∷ keep p ys | false ↦ keep p ys 
 abbrev fresh : List (List ℕ) → List ℕ → Bool
 fresh known y = not (is_noted known y)
 
-same_is : (x y : List ℕ) → same_text x y ≡ true → x ≡ y
+same_is : (x y : List ℕ) → bytes_eq x y ≡ true → x ≡ y
 same_is x y e = lexicographic.same_text x y (sym e)
 
-same_self : (x : List ℕ) → same_text x x ≡ true
+same_self : (x : List ℕ) → bytes_eq x x ≡ true
 same_self = lexicographic.nat_list_eq_equiv.refl
 
-same_back : (x y : List ℕ) → same_text x y ≡ same_text y x
+same_back : (x y : List ℕ) → bytes_eq x y ≡ bytes_eq y x
 same_back = lexicographic.nat_list_eq_equiv.symm
 
-alike : (p : List ℕ → Bool) (x y : List ℕ) → same_text x y ≡ true → p x ≡ p y
+alike : (p : List ℕ → Bool) (x y : List ℕ) → bytes_eq x y ≡ true → p x ≡ p y
 alike p x y e = ap p (same_is x y e)
 
 keep_without : (p : List ℕ → Bool) (x : List ℕ) (ys : List (List ℕ)) → p x ≡ false → keep p (without x ys) ≡ keep p ys
 keep_without p x [] h = refl
-keep_without p x (y ∷ ys) h = by (same_text x y) refl (keep_without p x ys h)
+keep_without p x (y ∷ ys) h = by (bytes_eq x y) refl (keep_without p x ys h)
   where
-    by : (b : Bool) → same_text x y ≡ b → keep p (without x ys) ≡ keep p ys
+    by : (b : Bool) → bytes_eq x y ≡ b → keep p (without x ys) ≡ keep p ys
         → keep p (elim b [ true ↦ without x ys | false ↦ y ∷ without x ys ]) ≡ keep p (y ∷ ys)
     by true e others = others ∙ ap (λ b. elim b [ true ↦ y ∷ keep p ys | false ↦ keep p ys ]) (sym h ∙ alike p x y e)
     by false e others = ap (λ l. elim (p y) [ true ↦ y ∷ l | false ↦ l ]) others
@@ -46,8 +47,8 @@ or_none true b h = refl
 or_none false b h = h
 
 -- one item more in the row, and its test
-noted_more : (known : List (List ℕ)) (x y : List ℕ) → is_noted (known ++ x ∷ []) y ≡ (is_noted known y || same_text y x)
-noted_more known x y = ap (λ b. same_text y [] || b) (list_any-append (same_text y) known (x ∷ []) ∙ tail (list_any (same_text y) known) (same_text y x)) ∙ group (same_text y []) (list_any (same_text y) known) (same_text y x)
+noted_more : (known : List (List ℕ)) (x y : List ℕ) → is_noted (known ++ x ∷ []) y ≡ (is_noted known y || bytes_eq y x)
+noted_more known x y = ap (λ b. bytes_eq y [] || b) (list_any-append (bytes_eq y) known (x ∷ []) ∙ tail (list_any (bytes_eq y) known) (bytes_eq y x)) ∙ group (bytes_eq y []) (list_any (bytes_eq y) known) (bytes_eq y x)
   where
     tail : (a b : Bool) → (a || (b || false)) ≡ (a || b)
     tail true b = refl
@@ -60,17 +61,17 @@ noted_more known x y = ap (λ b. same_text y [] || b) (list_any-append (same_tex
 
 keep_fresh : (known : List (List ℕ)) (x : List ℕ) (ys : List (List ℕ)) → keep (fresh known) (without x ys) ≡ keep (fresh (known ++ x ∷ [])) ys
 keep_fresh known x [] = refl
-keep_fresh known x (y ∷ ys) = by (same_text x y) refl (keep_fresh known x ys)
+keep_fresh known x (y ∷ ys) = by (bytes_eq x y) refl (keep_fresh known x ys)
   where
     taken : (b : Bool) → b ≡ false → (l : List (List ℕ)) → elim b [ true ↦ y ∷ l | false ↦ l ] ≡ l
     taken b e l = ap (λ c. elim c [ true ↦ y ∷ l | false ↦ l ]) e
 
-    by : (b : Bool) → same_text x y ≡ b → keep (fresh known) (without x ys) ≡ keep (fresh (known ++ x ∷ [])) ys
+    by : (b : Bool) → bytes_eq x y ≡ b → keep (fresh known) (without x ys) ≡ keep (fresh (known ++ x ∷ [])) ys
         → keep (fresh known) (elim b [ true ↦ without x ys | false ↦ y ∷ without x ys ]) ≡ keep (fresh (known ++ x ∷ [])) (y ∷ ys)
     by true e others =
-        others ∙ sym (taken (fresh (known ++ x ∷ []) y) (ap not (noted_more known x y ∙ or_last (is_noted known y) (same_text y x) (same_back y x ∙ e))) (keep (fresh (known ++ x ∷ [])) ys))
+        others ∙ sym (taken (fresh (known ++ x ∷ []) y) (ap not (noted_more known x y ∙ or_last (is_noted known y) (bytes_eq y x) (same_back y x ∙ e))) (keep (fresh (known ++ x ∷ [])) ys))
     by false e others =
-        (λ i. elim (not (sym (noted_more known x y ∙ or_none (is_noted known y) (same_text y x) (same_back y x ∙ e)) i)) [ true ↦ y ∷ others i | false ↦ others i ])
+        (λ i. elim (not (sym (noted_more known x y ∙ or_none (is_noted known y) (bytes_eq y x) (same_back y x ∙ e)) i)) [ true ↦ y ∷ others i | false ↦ others i ])
 
 -- what a row that knows these takes of some more
 abbrev taken_of : List (List ℕ) → List (List ℕ) → List (List ℕ)
@@ -102,9 +103,9 @@ fate most known (x ∷ xs) = by (is_noted known x) refl (fate most known xs) (fa
 
 keep_some : (ys : List (List ℕ)) → keep (fresh []) ys ≡ without [] ys
 keep_some [] = refl
-keep_some (y ∷ ys) = by (same_text y []) refl (keep_some ys)
+keep_some (y ∷ ys) = by (bytes_eq y []) refl (keep_some ys)
   where
-    by : (b : Bool) → same_text y [] ≡ b → keep (fresh []) ys ≡ without [] ys → elim (not (b || false)) [ true ↦ y ∷ keep (fresh []) ys | false ↦ keep (fresh []) ys ] ≡ without [] (y ∷ ys)
+    by : (b : Bool) → bytes_eq y [] ≡ b → keep (fresh []) ys ≡ without [] ys → elim (not (b || false)) [ true ↦ y ∷ keep (fresh []) ys | false ↦ keep (fresh []) ys ] ≡ without [] (y ∷ ys)
     by true e others = others ∙ (λ i. elim (sym (same_back [] y ∙ e) i) [ true ↦ without [] ys | false ↦ y ∷ without [] ys ])
     by false e others = (λ i. y ∷ others i) ∙ (λ i. elim (sym (same_back [] y ∙ e) i) [ true ↦ without [] ys | false ↦ y ∷ without [] ys ])
 

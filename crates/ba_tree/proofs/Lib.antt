@@ -1,7 +1,7 @@
 pub mod Adjacent
-pub mod Dialed
 pub mod Firsts
 pub mod LegalTexts
+pub mod SameTrees
 pub mod SpaceLaws
 pub mod TreeLaws
 pub mod TreeLimits

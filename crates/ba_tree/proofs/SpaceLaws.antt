@@ -4,9 +4,10 @@ use Rattle.std.proofs.lemmas.Bool.Decides.{nat_tests}
 use Rattle.std.proofs.lemmas.List.{take_more_set, length-map, length-take}
 use Rattle.std.proofs.Math.Seq.{drop-cons}
 use Rattle.std.specs.List.{list_any}
+use Rattle.std.specs.Str.{bytes_eq}
 use Rattle.ba_tree.specs.declared.trees.Tree.{Tree}
-use Rattle.ba_tree.specs.Trees.{same_text, joined, named_spaces, spaces_named, within}
-use Rattle.ba_tree.specs.SpaceRows.{is_noted, noted, go_on, all_noted, spaces_within}
+use Rattle.ba_tree.specs.Trees.{joined, named_spaces, spaces_named, within}
+use Rattle.ba_tree.specs.Spaces.{is_noted, noted, go_on, all_noted, spaces_within}
 use Rattle.ba_tree.proofs.TreeLaws.{elements_in}
 
 pub any_map : {X Y : Type 0} (test : Y → Bool) (f : X → Y) (xs : List X) → list_any test (map f xs) ≡ list_any (λ x. test (f x)) xs
@@ -56,11 +57,11 @@ noted_new most known x fresh room =
 pub row_length : {X : Type 0} (f : X → List ℕ) (row : List X) (count : ℕ) → count ≤ length row → length (map f (take count row)) ≡ count
 row_length f row count le = omega (arith, length-map (take count row) f, length-take count row, le)
 
-empty_test : (x : List ℕ) → same_text x [] ≡ nat_eq (length x) 0
+empty_test : (x : List ℕ) → bytes_eq x [] ≡ nat_eq (length x) 0
 empty_test [] = refl
 empty_test (x ∷ xs) = grind (arith, nat_tests)
 
-pub is_fresh : (known : List (List ℕ)) (x : List ℕ) → nat_eq (length x) 0 ≡ false → list_any (same_text x) known ≡ false → is_noted known x ≡ false
+pub is_fresh : (known : List (List ℕ)) (x : List ℕ) → nat_eq (length x) 0 ≡ false → list_any (bytes_eq x) known ≡ false → is_noted known x ≡ false
 is_fresh known x some other = (λ i. (empty_test x ∙ some) i || other i)
 
 pub noted_tree : (most : ℕ) (known : List (List ℕ)) (t : Tree) → all_noted most known (spaces_named t)

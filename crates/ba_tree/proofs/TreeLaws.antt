@@ -1,13 +1,24 @@
 -- What is defined over a tree, said of an element and the list of what stands in it.
-use Rattle.std.proofs.Common.{◌≡◌, ℕ, ◌+◌, List, [], ◌∷◌, map, sym, ap, ◌∙◌, refl}
+use Rattle.std.proofs.Common.{◌≡◌, ◌⊎◌, inl, inr, ℕ, ◌+◌, List, [], ◌∷◌, map, sym, ap, ◌∙◌, refl}
 use Rattle.std.proofs.lemmas.List.Sums.{sum_by-cons}
 use Rattle.std.specs.List.{sum, sum_by}
 use Rattle.ba_tree.specs.declared.trees.Tree.{Tree}
+use Rattle.ba_tree.specs.declared.trees.Content.{Content}
 use Rattle.ba_tree.specs.declared.trees.Content.TheOpen as o
+use Rattle.ba_tree.specs.declared.trees.Content.TheViews as v
 use Rattle.ba_tree.specs.declared.trees.Content.TheFolds.{fold_out-Tree, fold-roll-Content}
 use Rattle.ba_tree.specs.declared.trees.Content.TheVariants.{Child, Text, rolls-Child, rolls-Text}
 use Rattle.ba_tree.specs.Trees.{Part, Element, Within, within_content, within_tree, elements, within, element_of, content_levels, tree_levels, levels, levels_of, joined, greatest}
-use Rattle.ba_tree.specs.Endpoints.{content_length, element_length, tree_length, part_length, name_length, attribute_length, text_length}
+use Rattle.ba_tree.specs.Lengths.{content_length, element_length, tree_length, part_length, name_length, attribute_length, text_length}
+
+-- content is a text or an element
+content_from : (layer : o.Content-F Content Tree) (c : Content) → v.out-Content c ≡ layer
+    → ((text : List ℕ) × (c ≡ Text text)) ⊎ ((tree : Tree) × (c ≡ Child tree))
+content_from (o.Content-F.Text text) c e = inl (text, sym (v.roll-out-Content c) ∙ ap v.roll-Content e ∙ rolls-Text text)
+content_from (o.Content-F.Child tree) c e = inr (tree, sym (v.roll-out-Content c) ∙ ap v.roll-Content e ∙ rolls-Child tree)
+
+pub content_is : (c : Content) → ((text : List ℕ) × (c ≡ Text text)) ⊎ ((tree : Tree) × (c ≡ Child tree))
+content_is c = content_from (v.out-Content c) c refl
 
 pub within_text : (t : List ℕ) → within (Text t) ≡ record { part = Part.text t; elements = [] }
 within_text t = ap within (sym (rolls-Text t)) ∙ fold-roll-Content Within (List Element) within_content within_tree (o.Text t)

@@ -8,7 +8,7 @@ use Rattle.ba_tree.specs.Trees.{greatest, elements, within, levels, levels_of, m
 use Rattle.ba_tree.proofs.TreeLaws.{elements_in, levels_in, within_child}
 use Rattle.ba_tree.proofs.TreeRules.{all_joined}
 
-greatest_within : {X : Type 0} (f : X → ℕ) (limit : ℕ) (xs : List X) → nat_le (greatest (map f xs)) limit ≡ list_all (λ x. nat_le (f x) limit) xs
+pub greatest_within : {X : Type 0} (f : X → ℕ) (limit : ℕ) (xs : List X) → nat_le (greatest (map f xs)) limit ≡ list_all (λ x. nat_le (f x) limit) xs
 greatest_within f limit [] = none_above limit
   where
     none_above : (limit : ℕ) → nat_le 0 limit ≡ true

@@ -1,4 +1,4 @@
--- The characters of a text of XML (Extensible Markup Language 1.0, sections 2.2 and 2.3).
+-- Believe: the characters of a text of XML (Extensible Markup Language 1.0, sections 2.2 and 2.3).
 use Rattle.std.specs.Prelude.{ℕ, Bool, not, ◌&&◌, ◌||◌, ◌-◌, List, length, nat_le, ◌==◌, slice_index}
 use Rattle.std.specs.List.{list_all}
 use Rattle.std.specs.Str.{is_utf8, chars}

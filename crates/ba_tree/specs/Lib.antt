@@ -1,7 +1,7 @@
 pub mod Characters
-pub mod Dialing
-pub mod Endpoints
+pub mod Lengths
 pub mod Names
 pub mod Namespaces
-pub mod SpaceRows
+pub mod Same
+pub mod Spaces
 pub mod Trees

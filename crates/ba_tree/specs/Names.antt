@@ -1,4 +1,4 @@
--- The parts of the names of elements and attributes: NCName (Namespaces in XML 1.0, section 3) in ASCII.
+-- Believe: the parts of the names of elements and attributes: NCName (Namespaces in XML 1.0, section 3) in ASCII.
 use Rattle.std.specs.Prelude.{ℕ, Bool, false, ◌&&◌, ◌||◌, List, [], ◌∷◌, ◌==◌}
 use Rattle.std.specs.List.{list_all}
 use Rattle.ba_tree.specs.Characters.{is_within}

@@ -1,11 +1,10 @@
--- What holds of each tree that is read or written: the parts of an element, its elements in the order of a
+-- Believe: what holds of each tree that is read or written: the parts of an element, its elements in the order of a
 -- document, its levels, its namespaces, and the rules that all of them keep.
-use Rattle.std.specs.Prelude.{ℕ, Bool, true, false, not, ◌+◌, max, ◌&&◌, List, [], ◌∷◌, ◌++◌, length, map, ◌==◌, codes}
-use Rattle.std.specs.Cmp.Lexicographic.{slice_cmp, pointwise}
+use Rattle.std.specs.Prelude.{ℕ, Bool, true, false, not, ◌+◌, max, ◌&&◌, List, [], ◌∷◌, ◌++◌, length, map, ◌==◌, bytes_eq, codes}
+use Rattle.std.specs.Cmp.Lexicographic.{slice_cmp}
 use Rattle.std.specs.List.{list_all}
 use Rattle.std.specs.Ordering.{nat_cmp, ordering_then, is_lt}
 use Rattle.std.specs.declared.cmp.Ordering.{Ordering}
-use Rattle.std.specs.Prelude.{nat_eq}
 use Rattle.ba_tree.specs.declared.trees.Tree.{Tree}
 use Rattle.ba_tree.specs.declared.trees.Name.{Name}
 use Rattle.ba_tree.specs.declared.trees.Attribute.{Attribute}
@@ -25,15 +24,11 @@ abbrev pub greatest : List ℕ → ℕ
 greatest [] = 0
 greatest (n ∷ ns) = max n (greatest ns)
 
--- the test passes at each item and the one behind it
+-- the test passes at each item and the next
 abbrev pub all_adjacent : {X : Type 0} → (X → X → Bool) → List X → Bool
 all_adjacent test [] = true
 all_adjacent test (x ∷ []) = true
 all_adjacent test (x ∷ y ∷ more) = test x y && all_adjacent test (y ∷ more)
-
--- the two texts are the same
-abbrev pub same_text : List ℕ → List ℕ → Bool
-same_text = pointwise nat_eq
 
 -- ---- an element by itself
 
@@ -102,7 +97,7 @@ named_spaces e = e.name.space ∷ map (λ a. a.name.space) e.attributes
 -- the texts of this list other than that one
 abbrev pub without : List ℕ → List (List ℕ) → List (List ℕ)
 without x [] = []
-without x (y ∷ ys) = elim (same_text x y) [ true ↦ without x ys | false ↦ y ∷ without x ys ]
+without x (y ∷ ys) = elim (bytes_eq x y) [ true ↦ without x ys | false ↦ y ∷ without x ys ]
 
 -- each text of the list once, in the order of first appearance
 abbrev pub firsts : List (List ℕ) → List (List ℕ)
@@ -133,7 +128,7 @@ is_fit_name n = is_plain_name n.local && is_legal_text n.space
 
 -- the name by which a default namespace is declared
 abbrev pub declares : Name → Bool
-declares n = same_text n.space [] && same_text n.local (codes "xmlns")
+declares n = bytes_eq n.space [] && bytes_eq n.local (codes "xmlns")
 
 abbrev pub is_fit_attribute : Attribute → Bool
 is_fit_attribute a = (is_fit_name a.name && not (declares a.name)) && is_legal_text a.value

@@ -1,11 +1,7 @@
-//! Trees and endpoints are made, copied, compared and measured where there is memory, and the edges of what
-//! fits and of what can be dialed are told one by one.
+//! Trees are made and measured where there is memory, and the edges of texts and names are told one by one.
 
-use crate::{
-    Attribute, Content, Context, Epr, Name, Spaces, Tree, bare_ends, dialable, legal_text,
-    plain_name,
-};
-use ba_core::{Kind, List, Memory, Octets};
+use crate::{Attribute, Content, Name, Namespace, Spaces, Tree, bare_ends, legal_text, plain_name};
+use ba_core::{List, Memory, Octets};
 use std::alloc::Global;
 use std::test::Fail;
 
@@ -25,7 +21,7 @@ fn put<T: Drop>(list: &mut List<T>, item: T) -> Result<(), Memory> {
 
 fn attribute(alloc: Global, space: &[u8], local: &[u8]) -> Result<Attribute, Memory> {
     let name = Name {
-        space: octets(alloc, space)?,
+        space: Namespace::of(alloc, octets(alloc, space)?)?,
         local: octets(alloc, local)?,
     };
     Ok(Attribute {
@@ -36,7 +32,7 @@ fn attribute(alloc: Global, space: &[u8], local: &[u8]) -> Result<Attribute, Mem
 
 fn leaf(alloc: Global, space: &[u8]) -> Result<Tree, Memory> {
     let name = Name {
-        space: octets(alloc, space)?,
+        space: Namespace::of(alloc, octets(alloc, space)?)?,
         local: octets(alloc, b"Key")?,
     };
     Ok(Tree {
@@ -54,50 +50,7 @@ fn key(alloc: Global) -> Result<Tree, Memory> {
     Ok(tree)
 }
 
-fn endpoint(alloc: Global, address: &[u8]) -> Result<Epr, Memory> {
-    Ok(Epr {
-        address: octets(alloc, address)?,
-        parameters: List::new(alloc),
-    })
-}
-
-fn with_parameter(alloc: Global, parameter: Tree) -> Result<Epr, Memory> {
-    let mut parameters = List::new(alloc);
-    put(&mut parameters, parameter)?;
-    Ok(Epr {
-        address: octets(alloc, b"urn:x")?,
-        parameters,
-    })
-}
-
-/// An element without content, inside this many others.
-fn nested(alloc: Global, levels: u32) -> Result<Tree, Memory> {
-    let mut tree = leaf(alloc, b"")?;
-    for _ in 1..levels {
-        let mut outer = leaf(alloc, b"")?;
-        put(&mut outer.content, Content::Child(tree))?;
-        tree = outer;
-    }
-    Ok(tree)
-}
-
-#[test]
-fn copies_and_compares(rt: HostRuntime) -> Result<(), Fail> {
-    let context = Context {
-        identifier: octets(rt.alloc(), b"urn:x")?,
-        expires: Some(5),
-        kind: Some(Kind::Atomic),
-        registration: with_parameter(rt.alloc(), key(rt.alloc())?)?,
-    };
-    let copy = context.copy(rt.alloc())?;
-    assert!(rt; copy.registration.equals(&context.registration));
-    assert_eq!(rt; (copy.expires, copy.kind), (Some(5), Some(Kind::Atomic)));
-    let other = with_parameter(rt.alloc(), leaf(rt.alloc(), b"urn:app")?)?;
-    assert!(rt; !other.equals(&copy.registration));
-    Ok(())
-}
-
-// The address takes 2 + 5 bytes and the count 1; the name 9 + 5, the attribute 1 + 2 + 3 + 3, the text 2 + 1 + 4.
+// The name takes 9 + 5 bytes, the attribute 1 + 2 + 3 + 3, the text 2 + 1 + 4.
 #[test]
 fn measures(rt: HostRuntime) -> Result<(), Fail> {
     let tree = key(rt.alloc())?;
@@ -112,7 +65,6 @@ fn measures(rt: HostRuntime) -> Result<(), Fail> {
         Some(row) => assert_eq!(rt; row.into_len(), 1),
         None => assert!(rt; false),
     }
-    assert_eq!(rt; with_parameter(rt.alloc(), tree)?.size(), 38);
     Ok(())
 }
 
@@ -136,138 +88,4 @@ fn texts_and_names(rt: HostRuntime) {
         assert_eq!(rt; plain_name(bytes), plain);
         assert_eq!(rt; bare_ends(bytes), bare);
     }
-}
-
-#[test]
-fn dials(rt: HostRuntime) {
-    for (address, want) in [
-        (b"http://h".as_slice(), true),
-        (b"http://127.0.0.1:9000/p".as_slice(), true),
-        (b"http://a-b.c:1/~?x=1".as_slice(), true),
-        (b"http://h:65535".as_slice(), true),
-        (b"http://h:65536".as_slice(), false),
-        (b"http://h:99999999999".as_slice(), false),
-        (b"http://h:0".as_slice(), false),
-        (b"http://h:080".as_slice(), false),
-        (b"http://h:".as_slice(), false),
-        (b"http://h:8a".as_slice(), false),
-        (b"http://h:+8".as_slice(), false),
-        (b"http://h/".as_slice(), true),
-        (b"http://h/a#b".as_slice(), false),
-        (b"http://h/a b".as_slice(), false),
-        (b"http://h/\x7F".as_slice(), false),
-        (b"http://h?q".as_slice(), false),
-        (b"http://h_i".as_slice(), false),
-        (b"http://".as_slice(), false),
-        (b"http:///p".as_slice(), false),
-        (b"http://:80".as_slice(), false),
-        (b"HTTP://h".as_slice(), false),
-        (b"https://h".as_slice(), false),
-        (b"".as_slice(), false),
-    ] {
-        assert_eq!(rt; dialable(address), want);
-    }
-}
-
-#[test]
-fn dials_up_to_its_lengths(rt: HostRuntime) -> Result<(), Fail> {
-    for (host, path, want) in [(255, 761, true), (256, 0, false), (255, 762, false)] {
-        let mut address = octets(rt.alloc(), b"http://")?;
-        for _ in 0..host {
-            address.append(b"h")?;
-        }
-        for _ in 0..path + 1 {
-            address.append(b"/")?;
-        }
-        assert_eq!(rt; dialable(address.as_slice()), want, "at {host} {path}");
-    }
-    Ok(())
-}
-
-#[test]
-fn addresses_that_fit(rt: HostRuntime) -> Result<(), Fail> {
-    for (address, want) in [
-        (b"urn:x".as_slice(), true),
-        (b"a b".as_slice(), true),
-        (b"".as_slice(), false),
-        (b" a".as_slice(), false),
-        (b"a\n".as_slice(), false),
-        (b"\x01".as_slice(), false),
-    ] {
-        assert_eq!(rt; endpoint(rt.alloc(), address)?.fits(), want);
-    }
-    for (length, want) in [(4093, true), (4094, false)] {
-        let mut long = endpoint(rt.alloc(), b"")?;
-        for _ in 0..length {
-            long.address.append(b"a")?;
-        }
-        assert_eq!(rt; long.fits(), want, "at {length}");
-    }
-    Ok(())
-}
-
-#[test]
-fn parameters_that_fit(rt: HostRuntime) -> Result<(), Fail> {
-    for (levels, want) in [(16, true), (17, false)] {
-        let deep = with_parameter(rt.alloc(), nested(rt.alloc(), levels)?)?;
-        assert_eq!(rt; deep.fits(), want, "at {levels} levels");
-    }
-    for (count, want) in [(8, true), (9, false)] {
-        let mut many = endpoint(rt.alloc(), b"urn:x")?;
-        for _ in 0..count {
-            put(&mut many.parameters, key(rt.alloc())?)?;
-        }
-        assert_eq!(rt; many.fits(), want, "at {count} parameters");
-    }
-    Ok(())
-}
-
-#[test]
-fn attributes_that_fit(rt: HostRuntime) -> Result<(), Fail> {
-    let letters = b"abcdefghijklmnopq";
-    for (own, count, want) in [
-        (b"".as_slice(), 16, true),
-        (b"".as_slice(), 17, false),
-        (b"a".as_slice(), 16, true),
-        (b"z".as_slice(), 16, false),
-    ] {
-        let mut tree = leaf(rt.alloc(), own)?;
-        for index in 0..count {
-            let space = &letters[index..index + 1];
-            put(&mut tree.attributes, attribute(rt.alloc(), space, b"n")?)?;
-        }
-        assert_eq!(rt;
-            with_parameter(rt.alloc(), tree)?.fits(),
-            want,
-            "at {count}"
-        );
-    }
-    Ok(())
-}
-
-#[test]
-fn rules_of_parameters(rt: HostRuntime) -> Result<(), Fail> {
-    for (space, local, want) in [
-        (b"".as_slice(), b"b".as_slice(), true),
-        (b"".as_slice(), b"a".as_slice(), false),
-        (b"".as_slice(), b"A".as_slice(), false),
-        (b"".as_slice(), b"xmlns".as_slice(), false),
-        (b"urn:x".as_slice(), b"xmlns".as_slice(), true),
-        (b"urn:x".as_slice(), b"a:b".as_slice(), false),
-        (
-            b"http://www.w3.org/2005/08/addressing".as_slice(),
-            b"IsReferenceParameter".as_slice(),
-            false,
-        ),
-    ] {
-        let mut tree = key(rt.alloc())?;
-        put(&mut tree.attributes, attribute(rt.alloc(), space, local)?)?;
-        assert_eq!(rt; with_parameter(rt.alloc(), tree)?.fits(), want);
-    }
-    for (text, want) in [(b"".as_slice(), false), (b"x".as_slice(), false)] {
-        let mut tree = key(rt.alloc())?;
-        put(&mut tree.content, Content::Text(octets(rt.alloc(), text)?))?;
-        assert_eq!(rt; with_parameter(rt.alloc(), tree)?.fits(), want);
-    }
-    Ok(())
 }

@@ -6,11 +6,11 @@ use Rattle.std.specs.Str.{bytes_eq}
 use Rattle.ba_tree.specs.declared.trees.Name.{Name}
 use Rattle.ba_tree.specs.declared.trees.Attribute.{Attribute}
 use Rattle.ba_tree.specs.declared.trees.Content.{Content, Text, Child', Row_of-Content, end_of-Content, more_of-Content}
-use Rattle.ba_xml_reader.specs.Grammar.{Pieces, nothing, Pair, attribute, IsValue, IsNew, IsPair, ArePairs, IsStart, row, Allowed}
-use Rattle.ba_xml_reader.specs.GrammarWords.{Each, IsFront, IsName, IsPrefix, is_character}
-use Rattle.ba_xml_reader.specs.declared.levels.Declaration as reader
-use Rattle.ba_xml_reader.specs.declared.names.RawName.{RawName}
-use Rattle.ba_xml_reader.specs.declared.names.RawAttribute.{RawAttribute}
+use Rattle.ba_xml_grammar.specs.Grammar.{Pieces, nothing, Pair, attribute, IsValue, IsNew, IsPair, ArePairs, IsStart, row, Allowed}
+use Rattle.ba_xml_grammar.specs.GrammarWords.{Each, IsFront, IsName, IsPrefix, is_character}
+use Rattle.ba_xml_names.specs.declared.levels.Declaration as reader
+use Rattle.ba_xml_words.specs.declared.names.RawName.{RawName}
+use Rattle.ba_xml_words.specs.declared.names.RawAttribute.{RawAttribute}
 use Rattle.ba_xml_writer.specs.Namespaces.{Declaration}
 use Rattle.ba_xml_writer.specs.OneText.{is_end}
 use Rattle.ba_xml_writer.specs.Resolving.{prefix_of, prefixes_differ}

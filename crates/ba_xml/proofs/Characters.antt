@@ -9,10 +9,10 @@ use Rattle.ba_tree.specs.declared.trees.Name.{Name}
 use Rattle.ba_tree.specs.declared.trees.Attribute.{Attribute}
 use Rattle.ba_tree.specs.declared.trees.Content.{Content, Text, Child', Row_of-Content, end_of-Content, more_of-Content}
 use Rattle.ba_xml_reader.proofs.CompleteCharacters.{encoded_one}
-use Rattle.ba_xml_reader.specs.Classes.{is_first_letter}
-use Rattle.ba_xml_reader.specs.GrammarTexts.{IsOfCharacters, lines}
-use Rattle.ba_xml_reader.specs.GrammarWords.{Each, IsPlainName, is_name_letter}
-use Rattle.ba_xml_reader.specs.declared.levels.Declaration as reader
+use Rattle.ba_xml_words.specs.Classes.{is_first_letter}
+use Rattle.ba_xml_grammar.specs.GrammarTexts.{IsOfCharacters, lines}
+use Rattle.ba_xml_grammar.specs.GrammarWords.{Each, IsPlainName, is_name_letter}
+use Rattle.ba_xml_names.specs.declared.levels.Declaration as reader
 use Rattle.ba_xml_writer.proofs.Resolved.{spelled_by}
 use Rattle.ba_xml_writer.specs.Namespaces.{Declaration}
 use Rattle.ba_xml_writer.specs.OneText.{Escape, text_escapes, value_escapes, spelled, escaped, qualified, valued, declarations, attributes, element, is_end, item, row_items}

@@ -11,9 +11,9 @@ use Rattle.std.specs.Str.Parse.{AllDigits}
 use Rattle.ba_tree.specs.Characters.{is_legal_text}
 use Rattle.ba_tree.specs.Trees.{spaces_named, firsts, without}
 use Rattle.ba_tree.specs.declared.trees.Tree.{Tree}
-use Rattle.ba_xml_reader.specs.GrammarWords.{Each, IsPlainName, is_name_letter}
-use Rattle.ba_xml_reader.specs.Namespaces.{nearest, first_scope, is_lawful}
-use Rattle.ba_xml_reader.specs.declared.levels.Declaration as reader
+use Rattle.ba_xml_grammar.specs.GrammarWords.{Each, IsPlainName, is_name_letter}
+use Rattle.ba_xml_names.specs.Namespaces.{nearest, first_scope, is_lawful}
+use Rattle.ba_xml_names.specs.declared.levels.Declaration as reader
 use Rattle.ba_xml_writer.proofs.Resolved.{scope_differ, resolves, few_further, named}
 use Rattle.ba_xml_writer.specs.Namespaces.{Declaration, declaration, numbered, declared, scope, further, is_further, xml_space, soap_space, wsa_space, wscoor_space, wsba_space}
 use Rattle.ba_xml_writer.specs.Resolving.{prefix_of, space_of, prefixes_differ}

@@ -7,9 +7,9 @@ use Rattle.ba_tree.specs.Characters.{is_legal}
 use Rattle.ba_tree.specs.declared.trees.Name.{Name}
 use Rattle.ba_tree.specs.declared.trees.Attribute.{Attribute}
 use Rattle.ba_tree.specs.declared.trees.Content.{Content, Text, Child', Row_of-Content, end_of-Content, more_of-Content}
-use Rattle.ba_xml_reader.specs.GrammarWords.{Begun, IsPlainName}
-use Rattle.ba_xml_reader.specs.Namespaces.{nearest, name_order}
-use Rattle.ba_xml_reader.specs.declared.levels.Declaration as reader
+use Rattle.ba_xml_grammar.specs.GrammarWords.{Begun, IsPlainName}
+use Rattle.ba_xml_names.specs.Namespaces.{nearest, name_order}
+use Rattle.ba_xml_names.specs.declared.levels.Declaration as reader
 use Rattle.ba_xml_writer.specs.Namespaces.{Declaration}
 use Rattle.ba_xml_writer.specs.Resolving.{prefix_of}
 use Rattle.ba_xml.proofs.Spelling.{or_none}

@@ -11,7 +11,7 @@ use Rattle.ba_tree.specs.declared.trees.Tree.{Tree}
 use Rattle.ba_tree.specs.declared.trees.Content.{Content, Text, Child, Child', Row_of-Content, end_of-Content, more_of-Content, roll-Content, roll-out-Content}
 use Rattle.ba_tree.specs.declared.trees.Content.TheBlock.{shown-the_row-Content-0, items-the_row-Content, items_shown-the_row-Content-0}
 use Rattle.ba_tree.specs.declared.trees.Content.TheVariants.{rolls-Child, outs-Child'}
-use Rattle.ba_xml_reader.specs.declared.levels.Declaration as reader
+use Rattle.ba_xml_names.specs.declared.levels.Declaration as reader
 use Rattle.ba_xml_writer.specs.Namespaces.{Declaration}
 use Rattle.ba_xml.proofs.Fine.{is_text, starts_text, IsFineTag, IsFine, IsFineRow}
 use Rattle.ba_xml.proofs.LegalTexts.{fine_text}

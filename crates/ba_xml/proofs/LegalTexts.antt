@@ -10,7 +10,7 @@ use Rattle.ba_tree.specs.Characters.{is_legal, is_legal_text}
 use Rattle.ba_tree.specs.Trees as rules
 use Rattle.ba_tree.specs.Trees.{is_fit_part}
 use Rattle.ba_xml_reader.proofs.CompleteCharacters.{encoded_one, encoded_two, encoded_three, encoded_four}
-use Rattle.ba_xml_reader.specs.GrammarWords.{Each, Begun, is_character}
+use Rattle.ba_xml_grammar.specs.GrammarWords.{Each, Begun, is_character}
 use Rattle.ba_xml.proofs.Fine.{IsLegal}
 use Rattle.ba_xml.proofs.Conditions.{both}
 

@@ -7,6 +7,7 @@ pub mod FineTrees
 pub mod LegalTexts
 pub mod Meaning
 pub mod Prefixes
+pub mod Rewritten
 pub mod RoundTrip
 pub mod Sizes
 pub mod Spelling

@@ -4,11 +4,11 @@ use Rattle.std.proofs.lemmas.Bool.{eqb-true}
 use Rattle.std.specs.Char.{encode_utf8}
 use Rattle.ba_tree.specs.declared.trees.Content.{Content, Text, Child, Child', Row_of-Content, end_of-Content, more_of-Content}
 use Rattle.ba_tree.specs.declared.trees.Content.TheBlock.{items-the_row-Content, items_shown-the_row-Content-0}
-use Rattle.ba_xml_reader.specs.Grammar.{Start, Pieces, nothing, tag, or_nothing, meant, leading, if_some, following, meaning, Resolves}
-use Rattle.ba_xml_reader.specs.GrammarWords.{Begun}
-use Rattle.ba_xml_reader.specs.Namespaces.{nearest, opened, opening}
-use Rattle.ba_xml_reader.specs.declared.levels.Declaration as reader
-use Rattle.ba_xml_reader.specs.declared.levels.Opening.{Opening}
+use Rattle.ba_xml_grammar.specs.Grammar.{Start, Pieces, nothing, tag, or_nothing, meant, leading, if_some, following, meaning, Resolves}
+use Rattle.ba_xml_grammar.specs.GrammarWords.{Begun}
+use Rattle.ba_xml_names.specs.Namespaces.{nearest, opened, opening}
+use Rattle.ba_xml_names.specs.declared.levels.Declaration as reader
+use Rattle.ba_xml_names.specs.declared.levels.Opening.{Opening}
 use Rattle.ba_xml_writer.specs.Namespaces.{Declaration}
 use Rattle.ba_xml_writer.specs.OneText.{is_end}
 use Rattle.ba_xml_writer.specs.Resolving.{prefix_of}

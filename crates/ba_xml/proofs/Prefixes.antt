@@ -5,9 +5,9 @@ use Rattle.std.specs.Cmp.{IsTotalOrder}
 use Rattle.std.specs.Str.{bytes_eq}
 use Rattle.std.specs.declared.cmp.Ordering.TheVariants as order
 use Rattle.ba_tree.specs.declared.trees.Name.{Name}
-use Rattle.ba_xml_reader.specs.GrammarWords.{IsPlainName}
-use Rattle.ba_xml_reader.specs.Namespaces.{nearest, name_order}
-use Rattle.ba_xml_reader.specs.declared.levels.Declaration as reader
+use Rattle.ba_xml_grammar.specs.GrammarWords.{IsPlainName}
+use Rattle.ba_xml_names.specs.Namespaces.{nearest, name_order}
+use Rattle.ba_xml_names.specs.declared.levels.Declaration as reader
 use Rattle.ba_xml_writer.specs.Namespaces.{Declaration}
 use Rattle.ba_xml.proofs.Fine.{IsExplained, IsLegal}
 use Rattle.ba_xml.proofs.Spelling.{raw}

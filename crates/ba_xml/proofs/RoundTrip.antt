@@ -3,10 +3,10 @@ use Rattle.std.proofs.Common.{◌≡◌, ℕ, ◌+◌, ◌≤◌, Bool, true, fa
 use Rattle.ba_tree.specs.declared.trees.Tree.{Tree}
 use Rattle.ba_tree.specs.declared.trees.Content.{Child, Row_of-Content}
 use Rattle.ba_tree.specs.declared.trees.Content.TheBlock.{hidden-the_row-Content-0, items_hidden-the_row-Content-0, shape-the_row-Content-0}
-use Rattle.ba_xml_reader.specs.Grammar.{Start, Pieces, nothing, Document, misc_end, no_head, written, tag, meaning, IsRoot, Allowed, Resolves, Small}
-use Rattle.ba_xml_reader.specs.GrammarTexts.{IsXmlText}
-use Rattle.ba_xml_reader.specs.Namespaces.{first_scope, opened, opening}
-use Rattle.ba_xml_reader.specs.declared.levels.Declaration as reader
+use Rattle.ba_xml_grammar.specs.Grammar.{Start, Pieces, nothing, Document, misc_end, no_head, written, tag, meaning, IsRoot, Allowed, Resolves, Small}
+use Rattle.ba_xml_grammar.specs.GrammarTexts.{IsXmlText}
+use Rattle.ba_xml_names.specs.Namespaces.{first_scope, opened, opening}
+use Rattle.ba_xml_names.specs.declared.levels.Declaration as reader
 use Rattle.ba_xml_writer.proofs.Children.{row_is, end_is}
 use Rattle.ba_xml_writer.proofs.Resolved.{few_further, scope_differ}
 use Rattle.ba_xml_writer.specs.Namespaces.{Declaration, declared, scope, further}

@@ -3,8 +3,8 @@ use Rattle.std.proofs.Common.{◌≡◌, ℕ, ◌+◌, ◌≤◌, Bool, true, fa
 use Rattle.ba_tree.specs.declared.trees.Name.{Name}
 use Rattle.ba_tree.specs.declared.trees.Attribute.{Attribute}
 use Rattle.ba_tree.specs.declared.trees.Content.{Content, Text, Child', Row_of-Content, end_of-Content, more_of-Content}
-use Rattle.ba_xml_reader.specs.Grammar.{Pair, Start, Pieces, nothing, Small}
-use Rattle.ba_xml_reader.specs.declared.levels.Declaration as reader
+use Rattle.ba_xml_grammar.specs.Grammar.{Pair, Start, Pieces, nothing, Small}
+use Rattle.ba_xml_names.specs.declared.levels.Declaration as reader
 use Rattle.ba_xml_writer.specs.Namespaces.{Declaration}
 use Rattle.ba_xml_writer.specs.OneText.{is_end}
 use Rattle.ba_xml.proofs.Fine.{IsFine, IsFineRow}

@@ -3,9 +3,9 @@ use Rattle.std.proofs.Common.{ℕ, Bool, true, false, Option, Some, None, List, 
 use Rattle.ba_tree.specs.declared.trees.Name.{Name}
 use Rattle.ba_tree.specs.declared.trees.Attribute.{Attribute}
 use Rattle.ba_tree.specs.declared.trees.Content.{Content, Text, Child', Row_of-Content, end_of-Content, more_of-Content}
-use Rattle.ba_xml_reader.specs.Grammar.{Value, value_end, value_character, value_reference, Pair, Start, Pieces, nothing, character, reference, empty, element}
-use Rattle.ba_xml_reader.specs.GrammarWords.{Reference, less, greater, ampersand, quotation, decimal}
-use Rattle.ba_xml_reader.specs.declared.names.RawName.{RawName}
+use Rattle.ba_xml_grammar.specs.Grammar.{Value, value_end, value_character, value_reference, Pair, Start, Pieces, nothing, character, reference, empty, element}
+use Rattle.ba_xml_grammar.specs.GrammarWords.{Reference, less, greater, ampersand, quotation, decimal}
+use Rattle.ba_xml_words.specs.declared.names.RawName.{RawName}
 use Rattle.ba_xml_writer.specs.Namespaces.{Declaration}
 use Rattle.ba_xml_writer.specs.OneText.{is_end}
 use Rattle.ba_xml_writer.specs.Resolving.{prefix_of}

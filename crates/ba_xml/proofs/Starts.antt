@@ -10,11 +10,11 @@ use Rattle.std.specs.Str.{bytes_eq}
 use Rattle.std.specs.declared.cmp.Ordering.TheVariants as order
 use Rattle.ba_tree.specs.declared.trees.Name.{Name}
 use Rattle.ba_tree.specs.declared.trees.Attribute.{Attribute}
-use Rattle.ba_xml_reader.proofs.Openings.{lawful}
-use Rattle.ba_xml_reader.specs.Grammar.{Pair, value_of, attribute, tag}
-use Rattle.ba_xml_reader.specs.Namespaces.{is_declaration, declaration_of, declarations, is_lawful, nearest, named, element_name, attribute_name, attribute_of, valued, name_order, placed, placed_by, put_one, put_in_order, opened, opening_in, opening}
-use Rattle.ba_xml_reader.specs.declared.levels.Declaration as reader
-use Rattle.ba_xml_reader.specs.declared.names.RawAttribute.{RawAttribute}
+use Rattle.ba_xml_names.proofs.Openings.{lawful}
+use Rattle.ba_xml_grammar.specs.Grammar.{Pair, value_of, attribute, tag}
+use Rattle.ba_xml_names.specs.Namespaces.{is_declaration, declaration_of, declarations, is_lawful, nearest, named, element_name, attribute_name, attribute_of, valued, name_order, placed, placed_by, put_one, put_in_order, opened, opening_in, opening}
+use Rattle.ba_xml_names.specs.declared.levels.Declaration as reader
+use Rattle.ba_xml_words.specs.declared.names.RawAttribute.{RawAttribute}
 use Rattle.ba_xml_writer.specs.Namespaces.{Declaration}
 use Rattle.ba_xml_writer.specs.Resolving.{prefix_of}
 use Rattle.ba_xml.proofs.Fine.{IsFineName, IsFineAttribute, AreFine, IsBefore, Rise, IsFineTag}

@@ -15,9 +15,9 @@ use Rattle.ba_tree.specs.declared.trees.Name.{Name}
 use Rattle.ba_tree.specs.declared.trees.Attribute.{Attribute}
 use Rattle.ba_tree.specs.declared.trees.Tree.{Tree}
 use Rattle.ba_tree.specs.declared.trees.Content.{Child}
-use Rattle.ba_xml_reader.specs.Classes.{is_first_letter}
-use Rattle.ba_xml_reader.specs.GrammarWords.{Each, IsPlainName, is_name_letter}
-use Rattle.ba_xml_reader.specs.Namespaces.{name_order}
+use Rattle.ba_xml_words.specs.Classes.{is_first_letter}
+use Rattle.ba_xml_grammar.specs.GrammarWords.{Each, IsPlainName, is_name_letter}
+use Rattle.ba_xml_names.specs.Namespaces.{name_order}
 use Rattle.ba_xml_writer.specs.Namespaces.{scope, further}
 use Rattle.ba_xml_writer.specs.Writable.{IsWritable}
 use Rattle.ba_xml.proofs.Declared.{read_scope, explained}

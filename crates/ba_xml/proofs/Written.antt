@@ -3,8 +3,8 @@ use Rattle.std.proofs.Common.{◌≡◌, ℕ, Bool, true, false, Option, Some, N
 use Rattle.ba_tree.specs.declared.trees.Name.{Name}
 use Rattle.ba_tree.specs.declared.trees.Attribute.{Attribute}
 use Rattle.ba_tree.specs.declared.trees.Content.{Content, Text, Child', Row_of-Content, end_of-Content, more_of-Content}
-use Rattle.ba_xml_reader.specs.Grammar.{Pair, Pieces, nothing, written_value, written_pairs, written_start, written_end, written}
-use Rattle.ba_xml_reader.specs.GrammarWords.{written_name}
+use Rattle.ba_xml_grammar.specs.Grammar.{Pair, Pieces, nothing, written_value, written_pairs, written_start, written_end, written}
+use Rattle.ba_xml_grammar.specs.GrammarWords.{written_name}
 use Rattle.ba_xml_writer.proofs.Resolved.{spelled_by}
 use Rattle.ba_xml_writer.specs.Namespaces.{Declaration}
 use Rattle.ba_xml_writer.specs.OneText.{text_escapes, value_escapes, spelled, escaped, qualified, valued, declarations, attributes, element, is_end, item, row_items}

@@ -6,12 +6,12 @@ use Rattle.ba_xml_reader.proofs.Complete.{complete}
 use Rattle.ba_xml_reader.proofs.Dead.{refused_none, IsOfWriting, dead}
 use Rattle.ba_xml_reader.proofs.Sound.{sound}
 use Rattle.ba_xml_reader.specs.Answer.{IsAnswer}
-use Rattle.ba_xml_reader.specs.GrammarTexts.{IsXmlText, CanContinue}
+use Rattle.ba_xml_grammar.specs.GrammarTexts.{IsXmlText, CanContinue}
 use Rattle.ba_xml_reader.specs.Machine.{xml_answer}
-use Rattle.ba_xml_reader.specs.declared.faults.Reason.{Reason}
-use Rattle.ba_xml_reader.specs.declared.faults.Reason.TheVariants as reason
-use Rattle.ba_xml_reader.specs.declared.faults.XmlFault.{XmlFault}
-use Rattle.ba_xml_reader.specs.declared.faults.XmlFault.TheVariants as fault
+use Rattle.ba_xml_words.specs.declared.faults.Reason.{Reason}
+use Rattle.ba_xml_words.specs.declared.faults.Reason.TheVariants as reason
+use Rattle.ba_xml_words.specs.declared.faults.XmlFault.{XmlFault}
+use Rattle.ba_xml_words.specs.declared.faults.XmlFault.TheVariants as fault
 
 -- what is read is a text of the tree
 pub text_read : (bytes : List ℕ) (answer : Result Tree XmlFault) → IsAnswer (xml_answer bytes) answer → IfOk answer (λ tree. IsXmlText bytes tree)

@@ -8,10 +8,10 @@ use Rattle.ba_xml_reader.proofs.CompleteLayers.{to}
 use Rattle.ba_xml_reader.proofs.CompletePieces.{holding}
 use Rattle.ba_xml_reader.proofs.CompleteSteps.{steps}
 use Rattle.ba_xml_reader.specs.Machine.{document, run, answer_by, answer_of, xml_answer}
-use Rattle.ba_xml_reader.specs.GrammarTexts.{lines, IsOfCharacters, IsXmlText}
-use Rattle.ba_xml_reader.specs.Readings as reading
-use Rattle.ba_xml_reader.specs.declared.octets.Octet.TheVariants.{Between}
-use Rattle.ba_xml_reader.specs.declared.octets.Decoding.TheVariants.{At}
+use Rattle.ba_xml_grammar.specs.GrammarTexts.{lines, IsOfCharacters, IsXmlText}
+use Rattle.ba_xml_reader.specs.inside.Readings as reading
+use Rattle.ba_xml_words.specs.declared.octets.Octet.TheVariants.{Between}
+use Rattle.ba_xml_words.specs.declared.octets.Decoding.TheVariants.{At}
 use Rattle.ba_xml_reader.specs.declared.states.Mode.TheVariants as mode
 use Rattle.ba_xml_reader.specs.declared.states.Seen.TheVariants.{Zero}
 use Rattle.ba_xml_reader.specs.declared.states.State.TheVariants as state

@@ -4,11 +4,11 @@ use Rattle.std.proofs.lemmas.Bool.{lt-ltb, ne_eqb, ltb-true, ltb-false, eqb-true
 use Rattle.std.specs.Char.{encode_utf8}
 use Rattle.std.specs.List.{list_all}
 use Rattle.ba_tree.specs.Characters as characters
-use Rattle.ba_xml_reader.specs.Octets.{octet_after, lead}
-use Rattle.ba_xml_reader.specs.declared.octets.Octet.{Octet}
-use Rattle.ba_xml_reader.specs.declared.octets.Octet.TheVariants.{Between, One, Two, Three, AfterE0, AfterED, AfterEF, AfterEFBF, AfterF0, AfterF4}
-use Rattle.ba_xml_reader.specs.declared.octets.Decoding.{Decoding}
-use Rattle.ba_xml_reader.specs.declared.octets.Decoding.TheVariants.{At, Broken}
+use Rattle.ba_xml_words.specs.inside.Octets.{octet_after, lead}
+use Rattle.ba_xml_words.specs.declared.octets.Octet.{Octet}
+use Rattle.ba_xml_words.specs.declared.octets.Octet.TheVariants.{Between, One, Two, Three, AfterE0, AfterED, AfterEF, AfterEFBF, AfterF0, AfterF4}
+use Rattle.ba_xml_words.specs.declared.octets.Decoding.{Decoding}
+use Rattle.ba_xml_words.specs.declared.octets.Decoding.TheVariants.{At, Broken}
 use Rattle.ba_xml_reader.proofs.CompleteReferences.{legal_ranges}
 
 -- UTF-8 by itself, byte by byte

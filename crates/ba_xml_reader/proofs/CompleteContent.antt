@@ -1,14 +1,14 @@
 -- The machine over comments, CDATA sections, characters and white space.
 use Rattle.std.proofs.Common.{◌≡◌, ℕ, Bool, true, false, ◌==◌, ◌⊎◌, inl, inr, eqb→eq, eq-eqb, T, List, [], ◌∷◌, ◌++◌, refl, sym, ap, ◌∙◌, subst, append_assoc, append-nil, true≢false}
 use Rattle.ba_xml_reader.proofs.CompleteSteps.{steps, by_kind, go, IsByte, told, no_control, space_kind}
-use Rattle.ba_xml_reader.specs.Classes.{class_of, mark_of}
-use Rattle.ba_xml_reader.specs.Levels.{put, put_all}
+use Rattle.ba_xml_words.specs.Classes.{class_of, mark_of}
+use Rattle.ba_xml_names.specs.inside.Levels.{put, put_all}
 use Rattle.ba_xml_reader.specs.Machine.{state_after, act_by}
-use Rattle.ba_xml_reader.specs.Grammar.{IsComment, IsSection}
-use Rattle.ba_xml_reader.specs.GrammarWords.{Each, Nowhere, IsWhite, Differ, is_character}
-use Rattle.ba_xml_reader.specs.declared.classes.Class.{Class}
-use Rattle.ba_xml_reader.specs.declared.classes.Class.TheVariants as class
-use Rattle.ba_xml_reader.specs.declared.levels.Level.{Level}
+use Rattle.ba_xml_grammar.specs.Grammar.{IsComment, IsSection}
+use Rattle.ba_xml_grammar.specs.GrammarWords.{Each, Nowhere, IsWhite, Differ, is_character}
+use Rattle.ba_xml_words.specs.declared.classes.Class.{Class}
+use Rattle.ba_xml_words.specs.declared.classes.Class.TheVariants as class
+use Rattle.ba_xml_names.specs.declared.levels.Level.{Level}
 use Rattle.ba_xml_reader.specs.declared.states.Mode.{Mode}
 use Rattle.ba_xml_reader.specs.declared.states.Mode.TheVariants as mode
 use Rattle.ba_xml_reader.specs.declared.states.Seen.{Seen}

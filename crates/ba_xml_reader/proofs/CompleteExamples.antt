@@ -5,15 +5,15 @@ use Rattle.ba_tree.specs.declared.trees.Content.TheVariants.{Child, Text}
 use Rattle.ba_tree.specs.declared.trees.Tree.{Tree}
 use Rattle.ba_xml_reader.proofs.Complete.{complete}
 use Rattle.ba_xml_reader.proofs.Dead.{dead}
-use Rattle.ba_xml_reader.specs.Classes.{class_of, mark_of}
-use Rattle.ba_xml_reader.specs.Octets.{octet_after, lead}
-use Rattle.ba_xml_reader.specs.declared.faults.Reason.TheVariants as reason
-use Rattle.ba_xml_reader.specs.declared.faults.XmlFault.TheVariants as fault
+use Rattle.ba_xml_words.specs.Classes.{class_of, mark_of}
+use Rattle.ba_xml_words.specs.inside.Octets.{octet_after, lead}
+use Rattle.ba_xml_words.specs.declared.faults.Reason.TheVariants as reason
+use Rattle.ba_xml_words.specs.declared.faults.XmlFault.TheVariants as fault
 use Rattle.ba_xml_reader.specs.Machine.{run, reading_after, state_after, xml_answer}
-use Rattle.ba_xml_reader.specs.Namespaces.{opening, first_scope}
-use Rattle.ba_xml_reader.specs.Grammar.{value_end, value_character, value_reference, Start, nothing, character, reference, section, comment, empty, element, misc_end, misc_space, no_head, head, Saying, encoding, no_standalone, Document, IsDocument, IsSaying, IsExplained, meaning}
-use Rattle.ba_xml_reader.specs.GrammarTexts.{IsXmlText, IsOfCharacters, CanContinue}
-use Rattle.ba_xml_reader.specs.GrammarWords.{IsFront, greater, decimal}
+use Rattle.ba_xml_names.specs.Namespaces.{opening, first_scope}
+use Rattle.ba_xml_grammar.specs.Grammar.{value_end, value_character, value_reference, Start, nothing, character, reference, section, comment, empty, element, misc_end, misc_space, no_head, head, Saying, encoding, no_standalone, Document, IsDocument, IsSaying, IsExplained, meaning}
+use Rattle.ba_xml_grammar.specs.GrammarTexts.{IsXmlText, IsOfCharacters, CanContinue}
+use Rattle.ba_xml_grammar.specs.GrammarWords.{IsFront, greater, decimal}
 
 abbrev pub example : List ℕ
 example = codes "<a b='1&#50;'>]&gt;<!--c--><![CDATA[<]]></a>"

@@ -9,20 +9,21 @@ use Rattle.ba_xml_reader.proofs.CompleteNames.{name_runs, letter_kind}
 use Rattle.ba_xml_reader.proofs.CompletePieces.{Firsts, holding, less_kind, slash_kind, greater_breaks, slash_breaks, end_runs, law, comment_in, section_in, reference_in, row_safe, with_element, content_after, text_after}
 use Rattle.ba_xml_reader.proofs.CompleteSteps.{steps, none, one, by_kind, go}
 use Rattle.ba_xml_reader.proofs.CompleteTags.{IsBreak, gap_runs, pair_runs, space_runs, pairs_break, white_break, tag_named, in_tag, with_pairs, bare, TagRuns}
-use Rattle.ba_xml_reader.specs.Classes.{is_first_letter, class_of}
-use Rattle.ba_xml_reader.specs.Levels.{settled, with_child, child_level, empty_tree}
+use Rattle.ba_xml_words.specs.Classes.{is_first_letter, class_of}
+use Rattle.ba_xml_names.specs.inside.Levels.{settled, with_child, child_level, empty_tree}
 use Rattle.ba_xml_reader.specs.Machine.{state_after, document}
-use Rattle.ba_xml_reader.specs.Names.{one_letter, spelled}
-use Rattle.ba_xml_reader.specs.Namespaces.{opening, scope, first_scope}
-use Rattle.ba_xml_reader.specs.Tags.{with_attribute, tag_name_by, slashed_at, opened_at}
-use Rattle.ba_xml_reader.specs.Grammar.{Pair, Start, Pieces, nothing, character, reference, section, comment, empty, element, Misc, Head, Document, written, written_pair, written_pairs, written_tag, written_quoted, written_end, written_misc, written_heading, written_mark, written_document, attribute, tag, meant, or_nothing, meaning, element_tree, row, IsPair, ArePairs, IsStart, Allowed, IsMisc, IsRoot, IsHeading, IsDocument}
-use Rattle.ba_xml_reader.specs.GrammarWords.{IsPrefix, IsPlainName, IsWhite, Nowhere, written_name, written_prefix, character_of}
-use Rattle.ba_xml_reader.specs.declared.classes.Class.TheVariants as class
-use Rattle.ba_xml_reader.specs.declared.faults.Reason.{Reason}
-use Rattle.ba_xml_reader.specs.declared.faults.Reason.TheVariants as reason
-use Rattle.ba_xml_reader.specs.declared.levels.Level.{Level}
-use Rattle.ba_xml_reader.specs.declared.levels.Opening.{Opening}
-use Rattle.ba_xml_reader.specs.declared.states.Tag.{Tag}
+use Rattle.ba_xml_words.specs.inside.Names.{one_letter, spelled}
+use Rattle.ba_xml_names.specs.Namespaces.{opening, scope, first_scope}
+use Rattle.ba_xml_names.specs.inside.Tags.{with_attribute}
+use Rattle.ba_xml_reader.specs.inside.Tags.{tag_name_by, slashed_at, opened_at}
+use Rattle.ba_xml_grammar.specs.Grammar.{Pair, Start, Pieces, nothing, character, reference, section, comment, empty, element, Misc, Head, Document, written, written_pair, written_pairs, written_tag, written_quoted, written_end, written_misc, written_heading, written_mark, written_document, attribute, tag, meant, or_nothing, meaning, element_tree, row, IsPair, ArePairs, IsStart, Allowed, IsMisc, IsRoot, IsHeading, IsDocument}
+use Rattle.ba_xml_grammar.specs.GrammarWords.{IsPrefix, IsPlainName, IsWhite, Nowhere, written_name, written_prefix, character_of}
+use Rattle.ba_xml_words.specs.declared.classes.Class.TheVariants as class
+use Rattle.ba_xml_words.specs.declared.faults.Reason.{Reason}
+use Rattle.ba_xml_words.specs.declared.faults.Reason.TheVariants as reason
+use Rattle.ba_xml_names.specs.declared.levels.Level.{Level}
+use Rattle.ba_xml_names.specs.declared.levels.Opening.{Opening}
+use Rattle.ba_xml_names.specs.declared.tags.Tag.{Tag}
 use Rattle.ba_xml_reader.specs.declared.states.Mode.TheVariants as mode
 use Rattle.ba_xml_reader.specs.declared.states.Seen.{Seen}
 use Rattle.ba_xml_reader.specs.declared.states.Seen.TheVariants.{Zero}

@@ -3,21 +3,21 @@ use Rattle.std.proofs.Common.{◌≡◌, ℕ, Bool, true, false, inl, inr, List,
 use Rattle.std.specs.Char.{to_ascii_lowercase}
 use Rattle.ba_xml_reader.proofs.CompleteContent.{white}
 use Rattle.ba_xml_reader.proofs.CompleteSteps.{steps, one, by_kind, go, space_kind}
-use Rattle.ba_xml_reader.specs.Classes.{class_of, mark_of}
-use Rattle.ba_xml_reader.specs.Headings.{heading_after, first_setting, said_by}
-use Rattle.ba_xml_reader.specs.Inside.{declaring_by}
+use Rattle.ba_xml_words.specs.Classes.{class_of, mark_of}
+use Rattle.ba_xml_words.specs.inside.Headings.{heading_after, first_setting, said_by}
+use Rattle.ba_xml_reader.specs.inside.Content.{declaring_by}
 use Rattle.ba_xml_reader.specs.Machine.{document}
-use Rattle.ba_xml_reader.specs.Words.{reached_at}
-use Rattle.ba_xml_reader.specs.Grammar.{Saying, Encoding, no_encoding, encoding, Standalone, no_standalone, standalone, head, written_saying, written_encoding, written_standalone, yes_or_no, IsSaying, IsEncoding, IsStandalone, IsHeading}
-use Rattle.ba_xml_reader.specs.GrammarWords.{IsWhite, IsGap, IsQuote}
-use Rattle.ba_xml_reader.specs.declared.classes.Class.TheVariants as class
-use Rattle.ba_xml_reader.specs.declared.headings.Declared.{Declared}
-use Rattle.ba_xml_reader.specs.declared.headings.Declared.TheVariants as declared'
-use Rattle.ba_xml_reader.specs.declared.states.Heading.{Heading}
-use Rattle.ba_xml_reader.specs.declared.states.Heading.TheVariants as heading'
-use Rattle.ba_xml_reader.specs.declared.states.Item.{Item}
-use Rattle.ba_xml_reader.specs.declared.states.Item.TheVariants as item
-use Rattle.ba_xml_reader.specs.declared.states.Setting.TheVariants as setting
+use Rattle.ba_xml_words.specs.inside.Words.{reached_at}
+use Rattle.ba_xml_grammar.specs.Grammar.{Saying, Encoding, no_encoding, encoding, Standalone, no_standalone, standalone, head, written_saying, written_encoding, written_standalone, yes_or_no, IsSaying, IsEncoding, IsStandalone, IsHeading}
+use Rattle.ba_xml_grammar.specs.GrammarWords.{IsWhite, IsGap, IsQuote}
+use Rattle.ba_xml_words.specs.declared.classes.Class.TheVariants as class
+use Rattle.ba_xml_words.specs.declared.headings.Declared.{Declared}
+use Rattle.ba_xml_words.specs.declared.headings.Declared.TheVariants as declared'
+use Rattle.ba_xml_words.specs.declared.headings.Heading.{Heading}
+use Rattle.ba_xml_words.specs.declared.headings.Heading.TheVariants as heading'
+use Rattle.ba_xml_words.specs.declared.headings.Item.{Item}
+use Rattle.ba_xml_words.specs.declared.headings.Item.TheVariants as item
+use Rattle.ba_xml_words.specs.declared.headings.Setting.TheVariants as setting
 use Rattle.ba_xml_reader.specs.declared.states.Mode.TheVariants as mode
 use Rattle.ba_xml_reader.specs.declared.states.Seen.TheVariants.{Zero}
 use Rattle.ba_xml_reader.specs.declared.states.State.{State}

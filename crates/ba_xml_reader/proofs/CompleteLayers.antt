@@ -4,17 +4,17 @@ use Rattle.std.proofs.lemmas.Bool.{lt-ltb, eqb-true}
 use Rattle.ba_xml_reader.proofs.CompleteCharacters.{octets}
 use Rattle.ba_xml_reader.proofs.CompleteSteps.{steps, none, one}
 use Rattle.ba_xml_reader.specs.Machine.{state_after, unless_returned, turned_by, turned, turned_from, counted, reading_after, run}
-use Rattle.ba_xml_reader.specs.Octets.{octet_after}
-use Rattle.ba_xml_reader.specs.GrammarTexts.{lines}
-use Rattle.ba_xml_reader.specs.declared.faults.Reason.{Reason}
-use Rattle.ba_xml_reader.specs.declared.faults.Reason.TheVariants.{Size}
-use Rattle.ba_xml_reader.specs.declared.levels.Level.{Level}
+use Rattle.ba_xml_words.specs.inside.Octets.{octet_after}
+use Rattle.ba_xml_grammar.specs.GrammarTexts.{lines}
+use Rattle.ba_xml_words.specs.declared.faults.Reason.{Reason}
+use Rattle.ba_xml_words.specs.declared.faults.Reason.TheVariants.{Size}
+use Rattle.ba_xml_names.specs.declared.levels.Level.{Level}
 use Rattle.ba_xml_reader.specs.declared.machine.Scan.{Scan}
-use Rattle.ba_xml_reader.specs.Readings.{Reading}
-use Rattle.ba_xml_reader.specs.Readings as reading
-use Rattle.ba_xml_reader.specs.declared.octets.Octet.{Octet}
-use Rattle.ba_xml_reader.specs.declared.octets.Decoding.{Decoding}
-use Rattle.ba_xml_reader.specs.declared.octets.Decoding.TheVariants as decoding
+use Rattle.ba_xml_reader.specs.inside.Readings.{Reading}
+use Rattle.ba_xml_reader.specs.inside.Readings as reading
+use Rattle.ba_xml_words.specs.declared.octets.Octet.{Octet}
+use Rattle.ba_xml_words.specs.declared.octets.Decoding.{Decoding}
+use Rattle.ba_xml_words.specs.declared.octets.Decoding.TheVariants as decoding
 use Rattle.ba_xml_reader.specs.declared.states.Mode.{Mode}
 use Rattle.ba_xml_reader.specs.declared.states.State.{State}
 use Rattle.ba_xml_reader.specs.declared.states.State.TheVariants.{At, Refused}

@@ -5,17 +5,17 @@ use Rattle.std.specs.Char.{is_ascii_alphabetic, is_ascii_digit}
 use Rattle.std.specs.Int.{is_in_range}
 use Rattle.ba_xml_reader.proofs.CompleteContent.{hyphen_kind}
 use Rattle.ba_xml_reader.proofs.CompleteSteps.{steps, one, go}
-use Rattle.ba_xml_reader.specs.Classes.{is_space, is_first_letter, is_digit_or_dot, class_of, mark_of}
+use Rattle.ba_xml_words.specs.Classes.{is_space, is_first_letter, is_digit_or_dot, class_of, mark_of}
 use Rattle.ba_xml_reader.specs.Machine.{state_after}
-use Rattle.ba_xml_reader.specs.Names.{spelled, grown, one_letter, unlettered}
-use Rattle.ba_xml_reader.specs.Rests.{met}
-use Rattle.ba_xml_reader.specs.Tags.{end_name_by}
-use Rattle.ba_xml_reader.specs.GrammarWords.{Each, Begun, IsName, IsPrefix, IsPlainName, is_name_letter, written_name, written_prefix}
-use Rattle.ba_xml_reader.specs.declared.classes.Class.TheVariants as class
-use Rattle.ba_xml_reader.specs.declared.levels.Level.{Level}
-use Rattle.ba_xml_reader.specs.declared.names.RawName.{RawName}
-use Rattle.ba_xml_reader.specs.declared.names.Naming.TheVariants.{On}
-use Rattle.ba_xml_reader.specs.declared.rests.Meeting.TheVariants as meeting
+use Rattle.ba_xml_words.specs.inside.Names.{spelled, grown, one_letter, unlettered}
+use Rattle.ba_xml_words.specs.inside.Remaining.{met}
+use Rattle.ba_xml_reader.specs.inside.Tags.{end_name_by}
+use Rattle.ba_xml_grammar.specs.GrammarWords.{Each, Begun, IsName, IsPrefix, IsPlainName, is_name_letter, written_name, written_prefix}
+use Rattle.ba_xml_words.specs.declared.classes.Class.TheVariants as class
+use Rattle.ba_xml_names.specs.declared.levels.Level.{Level}
+use Rattle.ba_xml_words.specs.declared.names.RawName.{RawName}
+use Rattle.ba_xml_words.specs.declared.names.Naming.TheVariants.{On}
+use Rattle.ba_xml_words.specs.declared.remaining.Meeting.TheVariants as meeting
 use Rattle.ba_xml_reader.specs.declared.states.Mode.{Mode}
 use Rattle.ba_xml_reader.specs.declared.states.Mode.TheVariants as mode
 use Rattle.ba_xml_reader.specs.declared.states.State.{State}

@@ -9,20 +9,20 @@ use Rattle.ba_xml_reader.proofs.CompleteNames.{letter_kind, end_name_runs}
 use Rattle.ba_xml_reader.proofs.CompleteReferences.{reference_runs, follows}
 use Rattle.ba_xml_reader.proofs.CompleteSteps.{steps, one, by_kind, go}
 use Rattle.ba_xml_reader.proofs.CompleteTags.{tag_runs, Breaks}
-use Rattle.ba_xml_reader.specs.Classes.{is_first_letter, class_of, mark_of}
-use Rattle.ba_xml_reader.specs.Inside.{reference_by}
-use Rattle.ba_xml_reader.specs.Levels.{settled, with_child, tree_of, child_level, empty_tree, text_item}
+use Rattle.ba_xml_words.specs.Classes.{is_first_letter, class_of, mark_of}
+use Rattle.ba_xml_reader.specs.inside.Content.{reference_by}
+use Rattle.ba_xml_names.specs.inside.Levels.{settled, with_child, tree_of, child_level, empty_tree, text_item}
 use Rattle.ba_xml_reader.specs.Machine.{state_after}
-use Rattle.ba_xml_reader.specs.Names.{spelled, one_letter}
-use Rattle.ba_xml_reader.specs.Namespaces.{opening, scope}
-use Rattle.ba_xml_reader.specs.Tags.{slashed_at, opened_at}
-use Rattle.ba_xml_reader.specs.Grammar.{Start, Pieces, nothing, character, reference, section, comment, empty, element, written, written_tag, written_end, tag, or_nothing, meant, element_tree, leading, if_some, following, meaning, row, Allowed, IsStart, IsComment, IsSection, IsExplained, Resolves, Small}
-use Rattle.ba_xml_reader.specs.GrammarWords.{Nowhere, IsWhite, IsName, written_name, Reference, reference_text, character_of, IsReference}
-use Rattle.ba_xml_reader.specs.declared.classes.Class.TheVariants as class
-use Rattle.ba_xml_reader.specs.declared.levels.Declaration.{Declaration}
-use Rattle.ba_xml_reader.specs.declared.levels.Level.{Level}
-use Rattle.ba_xml_reader.specs.declared.names.RawName.{RawName}
-use Rattle.ba_xml_reader.specs.declared.references.Partial.TheVariants.{Nothing}
+use Rattle.ba_xml_words.specs.inside.Names.{spelled, one_letter}
+use Rattle.ba_xml_names.specs.Namespaces.{opening, scope}
+use Rattle.ba_xml_reader.specs.inside.Tags.{slashed_at, opened_at}
+use Rattle.ba_xml_grammar.specs.Grammar.{Start, Pieces, nothing, character, reference, section, comment, empty, element, written, written_tag, written_end, tag, or_nothing, meant, element_tree, leading, if_some, following, meaning, row, Allowed, IsStart, IsComment, IsSection, IsExplained, Resolves, Small}
+use Rattle.ba_xml_grammar.specs.GrammarWords.{Nowhere, IsWhite, IsName, written_name, Reference, reference_text, character_of, IsReference}
+use Rattle.ba_xml_words.specs.declared.classes.Class.TheVariants as class
+use Rattle.ba_xml_names.specs.declared.levels.Declaration.{Declaration}
+use Rattle.ba_xml_names.specs.declared.levels.Level.{Level}
+use Rattle.ba_xml_words.specs.declared.names.RawName.{RawName}
+use Rattle.ba_xml_words.specs.declared.references.Partial.TheVariants.{Nothing}
 use Rattle.ba_xml_reader.specs.declared.states.Mode.TheVariants as mode
 use Rattle.ba_xml_reader.specs.declared.states.Seen.{Seen}
 use Rattle.ba_xml_reader.specs.declared.states.Seen.TheVariants.{Zero}

@@ -6,16 +6,16 @@ use Rattle.std.specs.Char.{is_digit, digit_value}
 use Rattle.ba_tree.specs.Characters as characters
 use Rattle.ba_xml_reader.proofs.CompleteSteps.{steps, one}
 use Rattle.ba_xml_reader.specs.Machine.{state_after}
-use Rattle.ba_xml_reader.specs.References.{referred, is_legal, number_on, hashed, with_digit}
-use Rattle.ba_xml_reader.specs.GrammarWords.{Each, Reference, reference_text, character_of, number_behind, IsNumber, IsReference}
-use Rattle.ba_xml_reader.specs.GrammarWords.{less, greater, ampersand, apostrophe, quotation, decimal, hexadecimal}
-use Rattle.ba_xml_reader.specs.declared.references.Radix.{Radix}
-use Rattle.ba_xml_reader.specs.declared.references.Radix.TheVariants.{Decimal, Hexadecimal}
-use Rattle.ba_xml_reader.specs.References.{base_of}
-use Rattle.ba_xml_reader.specs.declared.references.Partial.{Partial}
-use Rattle.ba_xml_reader.specs.declared.references.Partial.TheVariants.{Nothing, Hash, HashX, Number}
-use Rattle.ba_xml_reader.specs.declared.references.Referred.{Referred}
-use Rattle.ba_xml_reader.specs.declared.references.Referred.TheVariants.{Wrong, On, Meant}
+use Rattle.ba_xml_words.specs.inside.References.{referred, is_legal, number_on, hashed, with_digit}
+use Rattle.ba_xml_grammar.specs.GrammarWords.{Each, Reference, reference_text, character_of, number_behind, IsNumber, IsReference}
+use Rattle.ba_xml_grammar.specs.GrammarWords.{less, greater, ampersand, apostrophe, quotation, decimal, hexadecimal}
+use Rattle.ba_xml_words.specs.declared.references.Radix.{Radix}
+use Rattle.ba_xml_words.specs.declared.references.Radix.TheVariants.{Decimal, Hexadecimal}
+use Rattle.ba_xml_words.specs.inside.References.{base_of}
+use Rattle.ba_xml_words.specs.declared.references.Partial.{Partial}
+use Rattle.ba_xml_words.specs.declared.references.Partial.TheVariants.{Nothing, Hash, HashX, Number}
+use Rattle.ba_xml_words.specs.declared.references.Referred.{Referred}
+use Rattle.ba_xml_words.specs.declared.references.Referred.TheVariants.{Wrong, On, Meant}
 use Rattle.ba_xml_reader.specs.declared.states.State.{State}
 
 -- a reference by itself, byte by byte

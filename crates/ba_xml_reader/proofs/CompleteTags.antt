@@ -7,23 +7,24 @@ use Rattle.ba_xml_reader.proofs.CompleteNames.{name_runs, letter_kind}
 use Rattle.ba_xml_reader.proofs.CompleteReferences.{reference_runs, follows}
 use Rattle.ba_xml_reader.proofs.CompleteSteps.{steps, one, by_kind, go, IsByte, told, no_control, space_kind}
 use Rattle.ba_xml_reader.proofs.CompleteContent.{Differing}
-use Rattle.ba_xml_reader.specs.Classes.{is_space, is_first_letter, class_of, mark_of}
+use Rattle.ba_xml_words.specs.Classes.{is_space, is_first_letter, class_of, mark_of}
 use Rattle.ba_xml_reader.specs.Machine.{state_after}
-use Rattle.ba_xml_reader.specs.Names.{one_letter, is_written, same_name}
-use Rattle.ba_xml_reader.specs.Tags.{with_attribute, value_by, value_reference_by, attribute_name_by, name_ended, equals_after, tag_name_by}
-use Rattle.ba_xml_reader.specs.Grammar.{Value, value_end, value_character, value_reference, Pair, Start, written_value, written_pair, written_pairs, written_tag, written_quoted, value_of, attribute, tag, IsValue, IsNew, IsPair, ArePairs, IsStart}
-use Rattle.ba_xml_reader.specs.GrammarWords.{Differ, IsWhite, IsGap, is_character, IsName, IsPlainName, IsQuote, written_name, Reference, reference_text, character_of, IsReference}
-use Rattle.ba_xml_reader.specs.declared.classes.Class.{Class}
-use Rattle.ba_xml_reader.specs.declared.classes.Class.TheVariants as class
-use Rattle.ba_xml_reader.specs.declared.levels.Level.{Level}
-use Rattle.ba_xml_reader.specs.declared.names.RawName.{RawName}
-use Rattle.ba_xml_reader.specs.declared.names.RawAttribute.{RawAttribute}
-use Rattle.ba_xml_reader.specs.declared.references.Partial.TheVariants.{Nothing}
-use Rattle.ba_xml_reader.specs.declared.states.Tag.{Tag}
+use Rattle.ba_xml_words.specs.inside.Names.{one_letter, is_written, same_name}
+use Rattle.ba_xml_names.specs.inside.Tags.{with_attribute}
+use Rattle.ba_xml_reader.specs.inside.Tags.{value_by, value_reference_by, attribute_name_by, name_ended, equals_after, tag_name_by}
+use Rattle.ba_xml_grammar.specs.Grammar.{Value, value_end, value_character, value_reference, Pair, Start, written_value, written_pair, written_pairs, written_tag, written_quoted, value_of, attribute, tag, IsValue, IsNew, IsPair, ArePairs, IsStart}
+use Rattle.ba_xml_grammar.specs.GrammarWords.{Differ, IsWhite, IsGap, is_character, IsName, IsPlainName, IsQuote, written_name, Reference, reference_text, character_of, IsReference}
+use Rattle.ba_xml_words.specs.declared.classes.Class.{Class}
+use Rattle.ba_xml_words.specs.declared.classes.Class.TheVariants as class
+use Rattle.ba_xml_names.specs.declared.levels.Level.{Level}
+use Rattle.ba_xml_words.specs.declared.names.RawName.{RawName}
+use Rattle.ba_xml_words.specs.declared.names.RawAttribute.{RawAttribute}
+use Rattle.ba_xml_words.specs.declared.references.Partial.TheVariants.{Nothing}
+use Rattle.ba_xml_names.specs.declared.tags.Tag.{Tag}
 use Rattle.ba_xml_reader.specs.declared.states.Mode.TheVariants as mode
 use Rattle.ba_xml_reader.specs.declared.states.State.{State}
 use Rattle.ba_xml_reader.specs.declared.states.State.TheVariants.{At, Refused}
-use Rattle.ba_xml_reader.specs.declared.faults.Reason.TheVariants.{Syntax}
+use Rattle.ba_xml_words.specs.declared.faults.Reason.TheVariants.{Syntax}
 
 ampersand_kind : class_of 38 ≡ class.Ampersand
 unfolding class_of mark_of

@@ -5,11 +5,11 @@ use Rattle.std.specs.Char.{encode_utf8}
 use Rattle.std.proofs.Math.Utf8.{scalar, scalar_cases}
 use Rattle.std.specs.Str.{all_scalars}
 use Rattle.ba_xml_reader.proofs.CompleteCharacters.{octets, octets_append, of_four, by_length}
-use Rattle.ba_xml_reader.specs.Octets.{octet_after, lead}
-use Rattle.ba_xml_reader.specs.declared.faults.Reason.TheVariants.{NotUtf8, Syntax}
-use Rattle.ba_xml_reader.specs.declared.octets.Octet.TheVariants.{Between}
-use Rattle.ba_xml_reader.specs.declared.octets.Decoding.{Decoding}
-use Rattle.ba_xml_reader.specs.declared.octets.Decoding.TheVariants.{At, Broken}
+use Rattle.ba_xml_words.specs.inside.Octets.{octet_after, lead}
+use Rattle.ba_xml_words.specs.declared.faults.Reason.TheVariants.{NotUtf8, Syntax}
+use Rattle.ba_xml_words.specs.declared.octets.Octet.TheVariants.{Between}
+use Rattle.ba_xml_words.specs.declared.octets.Decoding.{Decoding}
+use Rattle.ba_xml_words.specs.declared.octets.Decoding.TheVariants.{At, Broken}
 
 -- the bytes are passed, or broken for another reason
 abbrev Passed : List ℕ → Type 0

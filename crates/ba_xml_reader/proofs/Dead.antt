@@ -8,24 +8,24 @@ use Rattle.ba_xml_reader.proofs.CompleteFronts.{IsLimit, Limited, document_or}
 use Rattle.ba_xml_reader.proofs.CompleteLayers.{stays, run_none, run_one, line_step, scanned}
 use Rattle.ba_xml_reader.proofs.CompleteSteps.{steps}
 use Rattle.ba_xml_reader.specs.Machine.{document, run, start, unless_returned, turned, turned_by, turned_from, counted, reason_at, reason_past, reading_after, answer_by, answer_of, finished, xml_answer}
-use Rattle.ba_xml_reader.specs.Octets.{octet_after}
+use Rattle.ba_xml_words.specs.inside.Octets.{octet_after}
 use Rattle.ba_tree.specs.declared.trees.Content.{Content}
-use Rattle.ba_xml_reader.specs.Namespaces.{first_scope}
-use Rattle.ba_xml_reader.specs.Grammar.{written_document, meaning}
-use Rattle.ba_xml_reader.specs.GrammarTexts.{lines, IsWellFormed, IsXmlText, CanContinue}
-use Rattle.ba_xml_reader.specs.declared.faults.Reason.{Reason}
-use Rattle.ba_xml_reader.specs.declared.faults.Reason.TheVariants as reason
-use Rattle.ba_xml_reader.specs.declared.faults.XmlFault.{XmlFault}
-use Rattle.ba_xml_reader.specs.declared.faults.XmlFault.TheVariants as fault
+use Rattle.ba_xml_names.specs.Namespaces.{first_scope}
+use Rattle.ba_xml_grammar.specs.Grammar.{written_document, meaning}
+use Rattle.ba_xml_grammar.specs.GrammarTexts.{lines, IsWellFormed, IsXmlText, CanContinue}
+use Rattle.ba_xml_words.specs.declared.faults.Reason.{Reason}
+use Rattle.ba_xml_words.specs.declared.faults.Reason.TheVariants as reason
+use Rattle.ba_xml_words.specs.declared.faults.XmlFault.{XmlFault}
+use Rattle.ba_xml_words.specs.declared.faults.XmlFault.TheVariants as fault
 use Rattle.ba_xml_reader.specs.declared.machine.Scan.{Scan}
-use Rattle.ba_xml_reader.specs.Turns.{Turn}
-use Rattle.ba_xml_reader.specs.Turns as turn
-use Rattle.ba_xml_reader.specs.Readings.{Reading}
-use Rattle.ba_xml_reader.specs.Readings as reading
-use Rattle.ba_xml_reader.specs.declared.octets.Octet.{Octet}
-use Rattle.ba_xml_reader.specs.declared.octets.Octet.TheVariants.{Between}
-use Rattle.ba_xml_reader.specs.declared.octets.Decoding.{Decoding}
-use Rattle.ba_xml_reader.specs.declared.octets.Decoding.TheVariants as decoding
+use Rattle.ba_xml_reader.specs.inside.Turns.{Turn}
+use Rattle.ba_xml_reader.specs.inside.Turns as turn
+use Rattle.ba_xml_reader.specs.inside.Readings.{Reading}
+use Rattle.ba_xml_reader.specs.inside.Readings as reading
+use Rattle.ba_xml_words.specs.declared.octets.Octet.{Octet}
+use Rattle.ba_xml_words.specs.declared.octets.Octet.TheVariants.{Between}
+use Rattle.ba_xml_words.specs.declared.octets.Decoding.{Decoding}
+use Rattle.ba_xml_words.specs.declared.octets.Decoding.TheVariants as decoding
 use Rattle.ba_xml_reader.specs.declared.states.Mode.TheVariants as mode
 use Rattle.ba_xml_reader.specs.declared.states.State.{State}
 use Rattle.ba_xml_reader.specs.declared.states.State.TheVariants as state

@@ -3,14 +3,14 @@ use Rattle.std.proofs.Common.{◌≡◌, ◌≢◌, ℕ, ◌+◌, ◌<◌, ◌�
 use borrow.Author.Tests.{ltb-true}
 use Rattle.ba_tree.specs.declared.trees.Tree.{Tree}
 use Rattle.ba_xml_reader.specs.Machine.{run, reading_after, counted, turned, reason_at, answer_of, answer_by, finished}
-use Rattle.ba_xml_reader.specs.declared.faults.Reason.{Reason}
-use Rattle.ba_xml_reader.specs.declared.faults.Reason.TheVariants.{Size, Truncated}
-use Rattle.ba_xml_reader.specs.declared.faults.XmlFault.{XmlFault}
-use Rattle.ba_xml_reader.specs.declared.faults.XmlFault.TheVariants as fault
+use Rattle.ba_xml_words.specs.declared.faults.Reason.{Reason}
+use Rattle.ba_xml_words.specs.declared.faults.Reason.TheVariants.{Size, Truncated}
+use Rattle.ba_xml_words.specs.declared.faults.XmlFault.{XmlFault}
+use Rattle.ba_xml_words.specs.declared.faults.XmlFault.TheVariants as fault
 use Rattle.ba_xml_reader.specs.declared.machine.Scan.{Scan}
-use Rattle.ba_xml_reader.specs.Turns.{Turn}
-use Rattle.ba_xml_reader.specs.Turns as turn
-use Rattle.ba_xml_reader.specs.Readings.{Reading, Refused, Going}
+use Rattle.ba_xml_reader.specs.inside.Turns.{Turn}
+use Rattle.ba_xml_reader.specs.inside.Turns as turn
+use Rattle.ba_xml_reader.specs.inside.Readings.{Reading, Refused, Going}
 use Rattle.ba_xml_reader.proofs.Runs.{run_none, run_more, run_refused}
 
 -- a reading after so many bytes

@@ -14,11 +14,12 @@ pub mod CompleteSteps
 pub mod CompleteTags
 pub mod CompleteUtf8
 pub mod Dead
-pub mod Fronts
 pub mod Kept
-pub mod Nearest
-pub mod Openings
 pub mod PutOn
+pub mod ReadFit
+pub mod ReadLegal
+pub mod ReadLimits
+pub mod Refused
 pub mod Runs
 pub mod Sound
 pub mod SoundAnswer
@@ -43,5 +44,3 @@ pub mod SoundSections
 pub mod SoundSteps
 pub mod SoundTags
 pub mod SoundText
-pub mod SoundWords
-pub mod Spots

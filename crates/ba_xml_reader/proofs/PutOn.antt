@@ -4,28 +4,29 @@ use Rattle.std.proofs.Common.{List, [], ◌∷◌, ◌++◌, length, refl, sym, 
 use Rattle.std.specs.List.{list_all}
 use Rattle.std.proofs.lemmas.List.{length-take-le}
 use Rattle.std.proofs.lemmas.Bool.{ltb-true, lt-ltb, eqb-true, eqb-false}
-use Rattle.ba_xml_reader.specs.Classes.{class_of, mark_of}
-use Rattle.ba_xml_reader.specs.Levels.{put}
+use Rattle.ba_xml_words.specs.Classes.{class_of, mark_of}
+use Rattle.ba_xml_names.specs.inside.Levels.{put}
 use Rattle.ba_xml_reader.specs.Machine.{run, reading_after, counted, turned, turned_by, turned_from, state_after, act_by}
-use Rattle.ba_xml_reader.specs.Names.{with_letters}
-use Rattle.ba_xml_reader.specs.Octets.{octet_after, lead}
-use Rattle.ba_xml_reader.specs.Spans.{is_plain, is_letter, is_put, is_none, is_run, is_run_in, before_name, puts_inside, with_span, with_span_at, with_span_in}
-use Rattle.ba_xml_reader.specs.Rests.{is_front}
-use Rattle.ba_xml_reader.specs.Tags.{value_by, value_more, with_attribute, end_name_by}
-use Rattle.ba_xml_reader.specs.declared.classes.Class.{Class}
-use Rattle.ba_xml_reader.specs.declared.classes.Class.TheVariants as class
-use Rattle.ba_xml_reader.specs.declared.faults.Reason.TheVariants as reason
-use Rattle.ba_xml_reader.specs.declared.levels.Level.{Level}
+use Rattle.ba_xml_words.specs.inside.Names.{with_letters}
+use Rattle.ba_xml_words.specs.inside.Octets.{octet_after, lead}
+use Rattle.ba_xml_reader.specs.inside.Spans.{is_plain, is_letter, is_put, is_none, is_run, is_run_in, before_name, puts_inside, with_span, with_span_at, with_span_in}
+use Rattle.ba_xml_words.specs.inside.Remaining.{is_front}
+use Rattle.ba_xml_names.specs.inside.Tags.{with_attribute}
+use Rattle.ba_xml_reader.specs.inside.Tags.{value_by, value_more, end_name_by}
+use Rattle.ba_xml_words.specs.declared.classes.Class.{Class}
+use Rattle.ba_xml_words.specs.declared.classes.Class.TheVariants as class
+use Rattle.ba_xml_words.specs.declared.faults.Reason.TheVariants as reason
+use Rattle.ba_xml_names.specs.declared.levels.Level.{Level}
 use Rattle.ba_xml_reader.specs.declared.machine.Scan.{Scan}
-use Rattle.ba_xml_reader.specs.Turns as turn
-use Rattle.ba_xml_reader.specs.Readings.{Refused, Going}
-use Rattle.ba_xml_reader.specs.declared.names.RawName.{RawName}
-use Rattle.ba_xml_reader.specs.declared.names.RawAttribute.{RawAttribute}
-use Rattle.ba_xml_reader.specs.declared.octets.Octet.{Octet}
-use Rattle.ba_xml_reader.specs.declared.octets.Octet.TheVariants.{Between}
-use Rattle.ba_xml_reader.specs.declared.octets.Decoding.{Decoding}
-use Rattle.ba_xml_reader.specs.declared.octets.Decoding.TheVariants as decoding
-use Rattle.ba_xml_reader.specs.declared.rests.Meeting.TheVariants as meeting
+use Rattle.ba_xml_reader.specs.inside.Turns as turn
+use Rattle.ba_xml_reader.specs.inside.Readings.{Refused, Going}
+use Rattle.ba_xml_words.specs.declared.names.RawName.{RawName}
+use Rattle.ba_xml_words.specs.declared.names.RawAttribute.{RawAttribute}
+use Rattle.ba_xml_words.specs.declared.octets.Octet.{Octet}
+use Rattle.ba_xml_words.specs.declared.octets.Octet.TheVariants.{Between}
+use Rattle.ba_xml_words.specs.declared.octets.Decoding.{Decoding}
+use Rattle.ba_xml_words.specs.declared.octets.Decoding.TheVariants as decoding
+use Rattle.ba_xml_words.specs.declared.remaining.Meeting.TheVariants as meeting
 use Rattle.ba_xml_reader.specs.declared.spans.Puts.TheVariants as puts'
 use Rattle.ba_xml_reader.specs.declared.states.Mode.{Mode}
 use Rattle.ba_xml_reader.specs.declared.states.Mode.TheVariants as mode
@@ -33,7 +34,7 @@ use Rattle.ba_xml_reader.specs.declared.states.Seen.{Seen}
 use Rattle.ba_xml_reader.specs.declared.states.Seen.TheVariants.{Zero, One, Two}
 use Rattle.ba_xml_reader.specs.declared.states.State.{State}
 use Rattle.ba_xml_reader.specs.declared.states.State.TheVariants as state
-use Rattle.ba_xml_reader.specs.declared.states.Tag.{Tag}
+use Rattle.ba_xml_names.specs.declared.tags.Tag.{Tag}
 use Rattle.ba_xml_reader.proofs.CompleteNames.{letter_kind}
 use Rattle.ba_xml_reader.proofs.CompleteSteps.{by_kind}
 use Rattle.ba_xml_reader.proofs.Runs.{run_none, run_more}

@@ -4,11 +4,11 @@ use Rattle.std.proofs.lemmas.List.{drop_all, drop-drop, length-drop, take_all, t
 use Rattle.ba_tree.specs.declared.trees.Tree.{Tree}
 use Rattle.ba_xml_reader.specs.Answer.{IsAnswer}
 use Rattle.ba_xml_reader.specs.Machine.{run, reading_after}
-use Rattle.ba_xml_reader.specs.declared.faults.Reason.{Reason}
-use Rattle.ba_xml_reader.specs.declared.faults.XmlFault.{XmlFault}
-use Rattle.ba_xml_reader.specs.declared.faults.XmlFault.TheVariants as fault
+use Rattle.ba_xml_words.specs.declared.faults.Reason.{Reason}
+use Rattle.ba_xml_words.specs.declared.faults.XmlFault.{XmlFault}
+use Rattle.ba_xml_words.specs.declared.faults.XmlFault.TheVariants as fault
 use Rattle.ba_xml_reader.specs.declared.machine.Scan.{Scan}
-use Rattle.ba_xml_reader.specs.Readings.{Reading, Refused, Going}
+use Rattle.ba_xml_reader.specs.inside.Readings.{Reading, Refused, Going}
 
 pub run_none : (r : Reading) → run r [] ≡ r
 unfolding run

@@ -5,13 +5,13 @@ use Rattle.ba_xml_reader.proofs.SoundDocuments.{IsReadTo, top, Headed, IsDocumen
 use Rattle.ba_xml_reader.proofs.SoundBack.{back}
 use Rattle.ba_xml_reader.proofs.CompleteCharacters.{octets}
 use Rattle.ba_xml_reader.specs.Machine.{start, run, ended_at, finished, answer_by, answer_of, xml_answer}
-use Rattle.ba_xml_reader.specs.GrammarTexts.{lines}
-use Rattle.ba_xml_reader.specs.Readings.{Reading}
-use Rattle.ba_xml_reader.specs.Readings as reading
-use Rattle.ba_xml_reader.specs.declared.octets.Octet.{Octet}
-use Rattle.ba_xml_reader.specs.declared.octets.Octet.TheVariants.{Between}
-use Rattle.ba_xml_reader.specs.declared.octets.Decoding.TheVariants as decoding
-use Rattle.ba_xml_reader.specs.declared.states.Heading.TheVariants.{Target}
+use Rattle.ba_xml_grammar.specs.GrammarTexts.{lines}
+use Rattle.ba_xml_reader.specs.inside.Readings.{Reading}
+use Rattle.ba_xml_reader.specs.inside.Readings as reading
+use Rattle.ba_xml_words.specs.declared.octets.Octet.{Octet}
+use Rattle.ba_xml_words.specs.declared.octets.Octet.TheVariants.{Between}
+use Rattle.ba_xml_words.specs.declared.octets.Decoding.TheVariants as decoding
+use Rattle.ba_xml_words.specs.declared.headings.Heading.TheVariants.{Target}
 use Rattle.ba_xml_reader.specs.declared.states.Mode.TheVariants as mode
 
 -- the bytes, their line ends made one, are a document of this tree; they are not too many; and no octet among them is out of place

@@ -10,27 +10,28 @@ use Rattle.ba_xml_reader.proofs.SoundTags.{LeadsValue, LeadsEquals, BehindName, 
 use Rattle.ba_xml_reader.proofs.CompletePieces.{less_kind}
 use Rattle.ba_xml_reader.proofs.CompleteReferences.{refers}
 use Rattle.ba_xml_reader.proofs.CompleteSteps.{space_kind}
-use Rattle.ba_xml_reader.specs.Classes.{class_of, mark_of, is_space}
-use Rattle.ba_xml_reader.specs.Names.{spelled, same_name, is_written, grown}
-use Rattle.ba_xml_reader.specs.Namespaces.{opening, scope}
-use Rattle.ba_xml_reader.specs.References.{referred}
-use Rattle.ba_xml_reader.specs.Tags.{with_attribute, slashed_at, opened_at, begun_attribute, in_tag_after, tag_name_by, tag_name_after, equals_after, name_ended, attribute_name_by, attribute_name_after, quote_after, value_by, value_after, value_reference_by, value_reference_after}
-use Rattle.ba_xml_reader.specs.Grammar.{IsNew}
-use Rattle.ba_xml_reader.specs.declared.classes.Class.{Class}
-use Rattle.ba_xml_reader.specs.declared.classes.Class.TheVariants as class
-use Rattle.ba_xml_reader.specs.declared.levels.Level.{Level}
-use Rattle.ba_xml_reader.specs.declared.levels.Opening.{Opening}
-use Rattle.ba_xml_reader.specs.declared.names.RawName.{RawName}
-use Rattle.ba_xml_reader.specs.declared.names.RawAttribute.{RawAttribute}
-use Rattle.ba_xml_reader.specs.declared.names.Naming.{Naming}
-use Rattle.ba_xml_reader.specs.declared.names.Naming.TheVariants as naming
-use Rattle.ba_xml_reader.specs.declared.references.Partial.{Partial}
-use Rattle.ba_xml_reader.specs.declared.references.Referred.{Referred}
-use Rattle.ba_xml_reader.specs.declared.references.Referred.TheVariants as referred'
+use Rattle.ba_xml_words.specs.Classes.{class_of, mark_of, is_space}
+use Rattle.ba_xml_words.specs.inside.Names.{spelled, same_name, is_written, grown}
+use Rattle.ba_xml_names.specs.Namespaces.{opening, scope}
+use Rattle.ba_xml_words.specs.inside.References.{referred}
+use Rattle.ba_xml_names.specs.inside.Tags.{with_attribute}
+use Rattle.ba_xml_reader.specs.inside.Tags.{slashed_at, opened_at, begun_attribute, in_tag_after, tag_name_by, tag_name_after, equals_after, name_ended, attribute_name_by, attribute_name_after, quote_after, value_by, value_after, value_reference_by, value_reference_after}
+use Rattle.ba_xml_grammar.specs.Grammar.{IsNew}
+use Rattle.ba_xml_words.specs.declared.classes.Class.{Class}
+use Rattle.ba_xml_words.specs.declared.classes.Class.TheVariants as class
+use Rattle.ba_xml_names.specs.declared.levels.Level.{Level}
+use Rattle.ba_xml_names.specs.declared.levels.Opening.{Opening}
+use Rattle.ba_xml_words.specs.declared.names.RawName.{RawName}
+use Rattle.ba_xml_words.specs.declared.names.RawAttribute.{RawAttribute}
+use Rattle.ba_xml_words.specs.declared.names.Naming.{Naming}
+use Rattle.ba_xml_words.specs.declared.names.Naming.TheVariants as naming
+use Rattle.ba_xml_words.specs.declared.references.Partial.{Partial}
+use Rattle.ba_xml_words.specs.declared.references.Referred.{Referred}
+use Rattle.ba_xml_words.specs.declared.references.Referred.TheVariants as referred'
 use Rattle.ba_xml_reader.specs.declared.states.Mode.TheVariants as mode
 use Rattle.ba_xml_reader.specs.declared.states.State.TheVariants.{Refused, At}
-use Rattle.ba_xml_reader.specs.declared.faults.Reason.TheVariants.{Syntax, Attributes}
-use Rattle.ba_xml_reader.specs.declared.states.Tag.{Tag}
+use Rattle.ba_xml_words.specs.declared.faults.Reason.TheVariants.{Syntax, Attributes}
+use Rattle.ba_xml_names.specs.declared.tags.Tag.{Tag}
 
 ampersand_kind : class_of 38 ≡ class.Ampersand
 unfolding class_of mark_of

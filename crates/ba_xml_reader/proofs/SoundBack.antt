@@ -6,16 +6,16 @@ use Rattle.ba_xml_reader.proofs.Dead.{run_refused}
 use Rattle.ba_xml_reader.proofs.CompleteLayers.{run_none, run_one, line_step, scanned}
 use Rattle.ba_xml_reader.proofs.CompleteSteps.{steps, none}
 use Rattle.ba_xml_reader.specs.Machine.{start, run, unless_returned, turned_by, turned_from, counted, reason_at}
-use Rattle.ba_xml_reader.specs.Octets.{octet_after}
-use Rattle.ba_xml_reader.specs.GrammarTexts.{lines}
-use Rattle.ba_xml_reader.specs.declared.faults.Reason.{Reason}
-use Rattle.ba_xml_reader.specs.declared.faults.Reason.TheVariants as reason
+use Rattle.ba_xml_words.specs.inside.Octets.{octet_after}
+use Rattle.ba_xml_grammar.specs.GrammarTexts.{lines}
+use Rattle.ba_xml_words.specs.declared.faults.Reason.{Reason}
+use Rattle.ba_xml_words.specs.declared.faults.Reason.TheVariants as reason
 use Rattle.ba_xml_reader.specs.declared.machine.Scan.{Scan}
-use Rattle.ba_xml_reader.specs.Readings.{Reading}
-use Rattle.ba_xml_reader.specs.Readings as reading
-use Rattle.ba_xml_reader.specs.declared.octets.Octet.{Octet}
-use Rattle.ba_xml_reader.specs.declared.octets.Decoding.{Decoding}
-use Rattle.ba_xml_reader.specs.declared.octets.Decoding.TheVariants as decoding
+use Rattle.ba_xml_reader.specs.inside.Readings.{Reading}
+use Rattle.ba_xml_reader.specs.inside.Readings as reading
+use Rattle.ba_xml_words.specs.declared.octets.Octet.{Octet}
+use Rattle.ba_xml_words.specs.declared.octets.Decoding.{Decoding}
+use Rattle.ba_xml_words.specs.declared.octets.Decoding.TheVariants as decoding
 use Rattle.ba_xml_reader.specs.declared.states.State.{State}
 use Rattle.ba_xml_reader.specs.declared.states.State.TheVariants as state
 

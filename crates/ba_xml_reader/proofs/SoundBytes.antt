@@ -3,14 +3,14 @@ use Rattle.std.proofs.Common.{◌≡◌, ℕ, ◌<◌, ◌==◌, nat_lt, Bool, t
 use Rattle.std.proofs.lemmas.Bool.{ltb-true, eqb-true, false≢true, and_parts, or_cases, agree_below, agree_below_at}
 use Rattle.std.specs.Char.{is_digit, to_ascii_lowercase}
 use Rattle.std.specs.List.{list_all}
-use Rattle.ba_xml_reader.specs.Classes.{is_space, is_first_letter}
-use Rattle.ba_xml_reader.specs.Grammar.{Value, value_end, value_character, value_reference, Pair, Start, Pieces, nothing, character, reference, section, comment, empty, element, Misc, misc_end, misc_space, misc_comment, Saying, Encoding, no_encoding, encoding, Standalone, no_standalone, standalone, Head, no_head, head, Document}
-use Rattle.ba_xml_reader.specs.Grammar.{written_value, written_pair, written_pairs, written_tag, written_start, written_end, written_comment, written_section, written, written_misc, written_saying, written_encoding, yes_or_no, attribute, written_standalone, written_heading, written_mark, written_document}
-use Rattle.ba_xml_reader.specs.Grammar.{IsValue, IsPair, ArePairs, IsStart, IsComment, IsSection, Allowed, IsMisc, IsRoot, IsSaying, IsEncoding, IsStandalone, IsHeading, IsDocument}
-use Rattle.ba_xml_reader.specs.GrammarWords.{Each, Begun, IsWhite, is_character, is_name_letter, IsPlainName, IsPrefix, IsName, written_prefix, written_name}
-use Rattle.ba_xml_reader.specs.GrammarWords.{Reference, less, greater, ampersand, apostrophe, quotation, decimal, hexadecimal, reference_text, written_reference, IsReference, IsQuote}
-use Rattle.ba_xml_reader.specs.declared.names.RawName.{RawName}
-use Rattle.ba_xml_reader.specs.declared.names.RawAttribute.{RawAttribute}
+use Rattle.ba_xml_words.specs.Classes.{is_space, is_first_letter}
+use Rattle.ba_xml_grammar.specs.Grammar.{Value, value_end, value_character, value_reference, Pair, Start, Pieces, nothing, character, reference, section, comment, empty, element, Misc, misc_end, misc_space, misc_comment, Saying, Encoding, no_encoding, encoding, Standalone, no_standalone, standalone, Head, no_head, head, Document}
+use Rattle.ba_xml_grammar.specs.Grammar.{written_value, written_pair, written_pairs, written_tag, written_start, written_end, written_comment, written_section, written, written_misc, written_saying, written_encoding, yes_or_no, attribute, written_standalone, written_heading, written_mark, written_document}
+use Rattle.ba_xml_grammar.specs.Grammar.{IsValue, IsPair, ArePairs, IsStart, IsComment, IsSection, Allowed, IsMisc, IsRoot, IsSaying, IsEncoding, IsStandalone, IsHeading, IsDocument}
+use Rattle.ba_xml_grammar.specs.GrammarWords.{Each, Begun, IsWhite, is_character, is_name_letter, IsPlainName, IsPrefix, IsName, written_prefix, written_name}
+use Rattle.ba_xml_grammar.specs.GrammarWords.{Reference, less, greater, ampersand, apostrophe, quotation, decimal, hexadecimal, reference_text, written_reference, IsReference, IsQuote}
+use Rattle.ba_xml_words.specs.declared.names.RawName.{RawName}
+use Rattle.ba_xml_words.specs.declared.names.RawAttribute.{RawAttribute}
 
 -- bytes of characters, of which the last is below 80
 abbrev pub Fine : List ℕ → Type 0

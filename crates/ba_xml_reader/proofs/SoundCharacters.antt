@@ -6,13 +6,13 @@ use Rattle.std.specs.List.{list_all}
 use Rattle.ba_tree.specs.Characters.{is_legal}
 use Rattle.ba_xml_reader.proofs.CompleteCharacters.{octets, encoded_one, encoded_two, encoded_three, encoded_four}
 use Rattle.ba_xml_reader.proofs.SoundLegal as legal
-use Rattle.ba_xml_reader.specs.GrammarTexts.{IsOfCharacters}
-use Rattle.ba_xml_reader.specs.Octets.{octet_after, lead, followed, third_last, last, lead_of_three, lead_of_four}
-use Rattle.ba_xml_reader.specs.declared.faults.Reason.{Reason}
-use Rattle.ba_xml_reader.specs.declared.faults.Reason.TheVariants.{NotUtf8, Syntax}
-use Rattle.ba_xml_reader.specs.declared.octets.Octet.{Octet}
-use Rattle.ba_xml_reader.specs.declared.octets.Octet.TheVariants.{Between, One, Two, Three, AfterE0, AfterED, AfterEF, AfterEFBF, AfterF0, AfterF4}
-use Rattle.ba_xml_reader.specs.declared.octets.Decoding.TheVariants.{At, Broken}
+use Rattle.ba_xml_grammar.specs.GrammarTexts.{IsOfCharacters}
+use Rattle.ba_xml_words.specs.inside.Octets.{octet_after, lead, followed, third_last, last, lead_of_three, lead_of_four}
+use Rattle.ba_xml_words.specs.declared.faults.Reason.{Reason}
+use Rattle.ba_xml_words.specs.declared.faults.Reason.TheVariants.{NotUtf8, Syntax}
+use Rattle.ba_xml_words.specs.declared.octets.Octet.{Octet}
+use Rattle.ba_xml_words.specs.declared.octets.Octet.TheVariants.{Between, One, Two, Three, AfterE0, AfterED, AfterEF, AfterEFBF, AfterF0, AfterF4}
+use Rattle.ba_xml_words.specs.declared.octets.Decoding.TheVariants.{At, Broken}
 
 -- ---- one character and those behind it
 

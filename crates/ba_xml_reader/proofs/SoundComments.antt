@@ -1,7 +1,7 @@
 -- Comments backward: what follows in the machine's states inside a comment is the rest of a comment.
 use Rattle.std.proofs.Common.{◌≡◌, ℕ, true, List, [], ◌∷◌, ◌++◌, refl, ap}
-use Rattle.ba_xml_reader.specs.Grammar.{IsComment}
-use Rattle.ba_xml_reader.specs.GrammarWords.{IsFront, is_character}
+use Rattle.ba_xml_grammar.specs.Grammar.{IsComment}
+use Rattle.ba_xml_grammar.specs.GrammarWords.{IsFront, is_character}
 use Rattle.ba_xml_reader.specs.declared.states.Seen.{Seen}
 use Rattle.ba_xml_reader.specs.declared.states.Seen.TheVariants.{Zero, One, Two}
 

@@ -6,27 +6,27 @@ use Rattle.ba_xml_reader.proofs.SoundKinds.{IsMark, mark_of_kind, differs, chara
 use Rattle.ba_xml_reader.proofs.SoundLeads.{LeadsBody, Leads, Goes}
 use Rattle.ba_xml_reader.proofs.SoundPieces.{Follows, LeadsReference, reference_follows, character_follows}
 use Rattle.ba_xml_reader.proofs.SoundSections.{section_third, section_character, section_ends, nowhere_brackets, nowhere_third}
-use Rattle.ba_xml_reader.proofs.SoundWords.{LeftOf, word_left}
+use Rattle.ba_xml_words.proofs.SoundWords.{LeftOf, word_left}
 use Rattle.ba_xml_reader.proofs.CompleteContent.{brackets, section_word, Differing, hyphen_kind, greater_kind, bracket_kind}
 use Rattle.ba_xml_reader.proofs.CompletePieces.{less_kind}
 use Rattle.ba_xml_reader.proofs.CompleteReferences.{refers}
-use Rattle.ba_xml_reader.specs.Classes.{class_of, mark_of}
-use Rattle.ba_xml_reader.specs.Inside.{within_after, greater_after, one_more, comment_more, comment_end, comment_after, bracketed_by, bracketed_after, section_after, bracket_held, section_end, section_more, reference_by, reference_after}
-use Rattle.ba_xml_reader.specs.Levels.{put_all}
-use Rattle.ba_xml_reader.specs.References.{referred}
-use Rattle.ba_xml_reader.specs.Words.{reached_at}
-use Rattle.ba_xml_reader.specs.GrammarWords.{Nowhere, is_character}
-use Rattle.ba_xml_reader.specs.declared.classes.Class.{Class}
-use Rattle.ba_xml_reader.specs.declared.classes.Class.TheVariants as class
-use Rattle.ba_xml_reader.specs.declared.levels.Level.{Level}
-use Rattle.ba_xml_reader.specs.declared.references.Partial.{Partial}
-use Rattle.ba_xml_reader.specs.declared.references.Referred.{Referred}
-use Rattle.ba_xml_reader.specs.declared.references.Referred.TheVariants as referred'
+use Rattle.ba_xml_words.specs.Classes.{class_of, mark_of}
+use Rattle.ba_xml_reader.specs.inside.Content.{within_after, greater_after, one_more, comment_more, comment_end, comment_after, bracketed_by, bracketed_after, section_after, bracket_held, section_end, section_more, reference_by, reference_after}
+use Rattle.ba_xml_names.specs.inside.Levels.{put_all}
+use Rattle.ba_xml_words.specs.inside.References.{referred}
+use Rattle.ba_xml_words.specs.inside.Words.{reached_at}
+use Rattle.ba_xml_grammar.specs.GrammarWords.{Nowhere, is_character}
+use Rattle.ba_xml_words.specs.declared.classes.Class.{Class}
+use Rattle.ba_xml_words.specs.declared.classes.Class.TheVariants as class
+use Rattle.ba_xml_names.specs.declared.levels.Level.{Level}
+use Rattle.ba_xml_words.specs.declared.references.Partial.{Partial}
+use Rattle.ba_xml_words.specs.declared.references.Referred.{Referred}
+use Rattle.ba_xml_words.specs.declared.references.Referred.TheVariants as referred'
 use Rattle.ba_xml_reader.specs.declared.states.Mode.TheVariants as mode
 use Rattle.ba_xml_reader.specs.declared.states.Seen.{Seen}
 use Rattle.ba_xml_reader.specs.declared.states.Seen.TheVariants.{Zero, One, Two}
-use Rattle.ba_xml_reader.specs.declared.words.Progress.{Progress}
-use Rattle.ba_xml_reader.specs.declared.words.Progress.TheVariants as progress
+use Rattle.ba_xml_words.specs.declared.words.Progress.{Progress}
+use Rattle.ba_xml_words.specs.declared.words.Progress.TheVariants as progress
 
 ampersand_kind : class_of 38 ≡ class.Ampersand
 unfolding class_of mark_of

@@ -2,13 +2,13 @@
 use Rattle.std.proofs.Common.{◌≡◌, ℕ, true, false, List, [], ◌∷◌, ◌++◌, drop, sym, ap, ◌∙◌, true≢false}
 use Rattle.ba_xml_reader.proofs.SoundHeadings.{SaidThen, ItemThen, BehindItem}
 use Rattle.ba_xml_reader.proofs.SoundKinds.{IsMark}
-use Rattle.ba_xml_reader.proofs.SoundWords.{LeftOf, word_left}
-use Rattle.ba_xml_reader.specs.Headings.{item_text}
-use Rattle.ba_xml_reader.specs.Words.{reached_at}
-use Rattle.ba_xml_reader.specs.declared.classes.Class.TheVariants as class
-use Rattle.ba_xml_reader.specs.declared.states.Item.{Item}
-use Rattle.ba_xml_reader.specs.declared.words.Progress.{Progress}
-use Rattle.ba_xml_reader.specs.declared.words.Progress.TheVariants as progress
+use Rattle.ba_xml_words.proofs.SoundWords.{LeftOf, word_left}
+use Rattle.ba_xml_words.specs.inside.Headings.{item_text}
+use Rattle.ba_xml_words.specs.inside.Words.{reached_at}
+use Rattle.ba_xml_words.specs.declared.classes.Class.TheVariants as class
+use Rattle.ba_xml_words.specs.declared.headings.Item.{Item}
+use Rattle.ba_xml_words.specs.declared.words.Progress.{Progress}
+use Rattle.ba_xml_words.specs.declared.words.Progress.TheVariants as progress
 
 module _ (After : List ℕ → Type 0) where
   -- behind so many bytes of an item's name

@@ -9,28 +9,28 @@ use Rattle.ba_xml_reader.proofs.SoundHeadings.{Says, SaysLeft, SaidThen, ItemThe
 use Rattle.ba_xml_reader.proofs.SoundKinds.{IsMark, mark_told}
 use Rattle.ba_xml_reader.proofs.SoundPieces.{Outside}
 use Rattle.ba_xml_reader.proofs.SoundSteps.{leads}
-use Rattle.ba_xml_reader.proofs.SoundWords.{LeftOf, word_left}
-use Rattle.ba_xml_reader.specs.Classes.{class_of}
-use Rattle.ba_xml_reader.specs.Headings.{item_text, setting_text, first_setting, spelling, setting_at_first, setting_by, target_by, begun_by, item_begun, blank_after, later_item, next_item, behind_after, word_by, equals_after, quote_after, said_by, said_all_after, closed_after, heading_after}
-use Rattle.ba_xml_reader.specs.Inside.{declaring_by}
+use Rattle.ba_xml_words.proofs.SoundWords.{LeftOf, word_left}
+use Rattle.ba_xml_words.specs.Classes.{class_of}
+use Rattle.ba_xml_words.specs.inside.Headings.{item_text, setting_text, first_setting, spelling, setting_at_first, setting_by, target_by, begun_by, item_begun, blank_after, later_item, next_item, behind_after, word_by, equals_after, quote_after, said_by, said_all_after, closed_after, heading_after}
+use Rattle.ba_xml_reader.specs.inside.Content.{declaring_by}
 use Rattle.ba_xml_reader.specs.Machine.{document, ended_at}
-use Rattle.ba_xml_reader.specs.Words.{reached_at}
-use Rattle.ba_xml_reader.specs.GrammarWords.{IsWhite, IsQuote}
-use Rattle.ba_xml_reader.specs.declared.classes.Class.{Class}
-use Rattle.ba_xml_reader.specs.declared.classes.Class.TheVariants as class
-use Rattle.ba_xml_reader.specs.declared.faults.Reason.TheVariants.{Syntax}
-use Rattle.ba_xml_reader.specs.declared.headings.Declared.{Declared}
-use Rattle.ba_xml_reader.specs.declared.headings.Declared.TheVariants as declared'
-use Rattle.ba_xml_reader.specs.declared.states.Heading.{Heading}
-use Rattle.ba_xml_reader.specs.declared.states.Heading.TheVariants as heading'
-use Rattle.ba_xml_reader.specs.declared.states.Item.{Item}
-use Rattle.ba_xml_reader.specs.declared.states.Item.TheVariants as item
-use Rattle.ba_xml_reader.specs.declared.states.Setting.{Setting}
-use Rattle.ba_xml_reader.specs.declared.states.Setting.TheVariants as setting
+use Rattle.ba_xml_words.specs.inside.Words.{reached_at}
+use Rattle.ba_xml_grammar.specs.GrammarWords.{IsWhite, IsQuote}
+use Rattle.ba_xml_words.specs.declared.classes.Class.{Class}
+use Rattle.ba_xml_words.specs.declared.classes.Class.TheVariants as class
+use Rattle.ba_xml_words.specs.declared.faults.Reason.TheVariants.{Syntax}
+use Rattle.ba_xml_words.specs.declared.headings.Declared.{Declared}
+use Rattle.ba_xml_words.specs.declared.headings.Declared.TheVariants as declared'
+use Rattle.ba_xml_words.specs.declared.headings.Heading.{Heading}
+use Rattle.ba_xml_words.specs.declared.headings.Heading.TheVariants as heading'
+use Rattle.ba_xml_words.specs.declared.headings.Item.{Item}
+use Rattle.ba_xml_words.specs.declared.headings.Item.TheVariants as item
+use Rattle.ba_xml_words.specs.declared.headings.Setting.{Setting}
+use Rattle.ba_xml_words.specs.declared.headings.Setting.TheVariants as setting
 use Rattle.ba_xml_reader.specs.declared.states.Mode.TheVariants as mode
 use Rattle.ba_xml_reader.specs.declared.states.Seen.TheVariants.{Zero}
-use Rattle.ba_xml_reader.specs.declared.words.Progress.{Progress}
-use Rattle.ba_xml_reader.specs.declared.words.Progress.TheVariants as progress
+use Rattle.ba_xml_words.specs.declared.words.Progress.{Progress}
+use Rattle.ba_xml_words.specs.declared.words.Progress.TheVariants as progress
 
 -- ---- what an item says
 

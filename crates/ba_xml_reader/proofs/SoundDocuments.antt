@@ -10,17 +10,17 @@ use Rattle.ba_xml_reader.proofs.SoundSteps.{leads, open_back}
 use Rattle.ba_xml_reader.proofs.CompleteLayers.{stays}
 use Rattle.ba_xml_reader.proofs.CompletePieces.{content_after}
 use Rattle.ba_xml_reader.proofs.CompleteSteps.{steps, none, go}
-use Rattle.ba_xml_reader.specs.Classes.{class_of}
-use Rattle.ba_xml_reader.specs.Inside.{begin_after, wanted_after, first_after, first_open_after, open_after}
+use Rattle.ba_xml_words.specs.Classes.{class_of}
+use Rattle.ba_xml_reader.specs.inside.Content.{begin_after, wanted_after, first_after, first_open_after, open_after}
 use Rattle.ba_xml_reader.specs.Machine.{document, act_by, root_of, child_by, ended_at}
-use Rattle.ba_xml_reader.specs.Namespaces.{first_scope}
-use Rattle.ba_xml_reader.specs.Grammar.{Pieces, nothing, empty, element, Head, no_head, Document, written_mark, written_heading, written_misc, written_document, meaning, IsRoot, IsHeading, IsDocument, Small}
-use Rattle.ba_xml_reader.specs.GrammarTexts.{Means}
-use Rattle.ba_xml_reader.specs.declared.classes.Class.{Class}
-use Rattle.ba_xml_reader.specs.declared.classes.Class.TheVariants as class
-use Rattle.ba_xml_reader.specs.declared.faults.Reason.{Reason}
-use Rattle.ba_xml_reader.specs.declared.faults.Reason.TheVariants.{Syntax}
-use Rattle.ba_xml_reader.specs.declared.states.Heading.TheVariants.{Target}
+use Rattle.ba_xml_names.specs.Namespaces.{first_scope}
+use Rattle.ba_xml_grammar.specs.Grammar.{Pieces, nothing, empty, element, Head, no_head, Document, written_mark, written_heading, written_misc, written_document, meaning, IsRoot, IsHeading, IsDocument, Small}
+use Rattle.ba_xml_grammar.specs.GrammarTexts.{Means}
+use Rattle.ba_xml_words.specs.declared.classes.Class.{Class}
+use Rattle.ba_xml_words.specs.declared.classes.Class.TheVariants as class
+use Rattle.ba_xml_words.specs.declared.faults.Reason.{Reason}
+use Rattle.ba_xml_words.specs.declared.faults.Reason.TheVariants.{Syntax}
+use Rattle.ba_xml_words.specs.declared.headings.Heading.TheVariants.{Target}
 use Rattle.ba_xml_reader.specs.declared.states.Mode.{Mode}
 use Rattle.ba_xml_reader.specs.declared.states.Mode.TheVariants as mode
 use Rattle.ba_xml_reader.specs.declared.states.Seen.TheVariants.{Zero}

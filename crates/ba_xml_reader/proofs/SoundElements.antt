@@ -7,18 +7,18 @@ use Rattle.ba_xml_reader.proofs.SoundNames.{LeadsName, spelled_written}
 use Rattle.ba_xml_reader.proofs.SoundPieces.{IsGood, IsRootOf, Outside, Follows, nothing_ends}
 use Rattle.ba_xml_reader.proofs.SoundTags.{LeadsInTag, are_pairs}
 use Rattle.ba_xml_reader.proofs.CompletePieces.{law}
-use Rattle.ba_xml_reader.specs.Levels.{settled, with_child, child_level, empty_tree, text_item}
+use Rattle.ba_xml_names.specs.inside.Levels.{settled, with_child, child_level, empty_tree, text_item}
 use Rattle.ba_xml_reader.specs.Machine.{root_of}
-use Rattle.ba_xml_reader.specs.Names.{spelled, one_letter}
-use Rattle.ba_xml_reader.specs.Namespaces.{opening, scope}
-use Rattle.ba_xml_reader.specs.Grammar.{Start, Pieces, nothing, empty, element, Misc, written, written_misc, written_pairs, written_tag, tag, or_nothing, meant, element_tree, meaning, IsMisc, Small, IsStart}
-use Rattle.ba_xml_reader.specs.GrammarWords.{IsWhite, written_name}
-use Rattle.ba_xml_reader.specs.declared.levels.Level.{Level}
-use Rattle.ba_xml_reader.specs.declared.levels.Opening.{Opening}
-use Rattle.ba_xml_reader.specs.declared.names.RawName.{RawName}
+use Rattle.ba_xml_words.specs.inside.Names.{spelled, one_letter}
+use Rattle.ba_xml_names.specs.Namespaces.{opening, scope}
+use Rattle.ba_xml_grammar.specs.Grammar.{Start, Pieces, nothing, empty, element, Misc, written, written_misc, written_pairs, written_tag, tag, or_nothing, meant, element_tree, meaning, IsMisc, Small, IsStart}
+use Rattle.ba_xml_grammar.specs.GrammarWords.{IsWhite, written_name}
+use Rattle.ba_xml_names.specs.declared.levels.Level.{Level}
+use Rattle.ba_xml_names.specs.declared.levels.Opening.{Opening}
+use Rattle.ba_xml_words.specs.declared.names.RawName.{RawName}
 use Rattle.ba_xml_reader.specs.declared.states.Seen.{Seen}
 use Rattle.ba_xml_reader.specs.declared.states.Seen.TheVariants.{Zero}
-use Rattle.ba_xml_reader.specs.declared.states.Tag.{Tag}
+use Rattle.ba_xml_names.specs.declared.tags.Tag.{Tag}
 
 -- "/>", and then what follows the empty element
 abbrev pub ClosesEmpty : List Level → Level → Tree → Tag → List ℕ → Type 0

@@ -2,13 +2,13 @@
 use Rattle.std.proofs.Common.{◌≡◌, ℕ, Bool, true, false, List, [], ◌∷◌, ◌++◌, map, drop, codes, refl, ap, ◌∙◌, ◌⊎◌, inl, inr}
 use Rattle.std.specs.Char.{to_ascii_lowercase}
 use Rattle.ba_xml_reader.proofs.SoundKinds.{IsMark}
-use Rattle.ba_xml_reader.specs.Headings.{item_text, setting_text, spelling}
-use Rattle.ba_xml_reader.specs.Grammar.{Encoding, no_encoding, encoding, Standalone, no_standalone, standalone, Head, head, written_encoding, written_standalone, written_heading, IsEncoding, IsStandalone, IsHeading, yes_or_no}
-use Rattle.ba_xml_reader.specs.GrammarWords.{Begun, IsWhite, IsQuote}
-use Rattle.ba_xml_reader.specs.declared.classes.Class.TheVariants as class
-use Rattle.ba_xml_reader.specs.declared.states.Item.{Item}
-use Rattle.ba_xml_reader.specs.declared.states.Item.TheVariants as item
-use Rattle.ba_xml_reader.specs.declared.states.Setting.{Setting}
+use Rattle.ba_xml_words.specs.inside.Headings.{item_text, setting_text, spelling}
+use Rattle.ba_xml_grammar.specs.Grammar.{Encoding, no_encoding, encoding, Standalone, no_standalone, standalone, Head, head, written_encoding, written_standalone, written_heading, IsEncoding, IsStandalone, IsHeading, yes_or_no}
+use Rattle.ba_xml_grammar.specs.GrammarWords.{Begun, IsWhite, IsQuote}
+use Rattle.ba_xml_words.specs.declared.classes.Class.TheVariants as class
+use Rattle.ba_xml_words.specs.declared.headings.Item.{Item}
+use Rattle.ba_xml_words.specs.declared.headings.Item.TheVariants as item
+use Rattle.ba_xml_words.specs.declared.headings.Setting.{Setting}
 
 -- what an item of the declaration may say
 abbrev pub Says : Item → List ℕ → Type 0

@@ -1,10 +1,10 @@
 -- What the kind of a byte says of the byte.
 use Rattle.std.proofs.Common.{◌≡◌, ℕ, Bool, true, false, cond, ◌||◌, ◌==◌, nat_lt, refl, subst, sym, ap, ◌∙◌, true≢false, eq-eqb}
-use Rattle.ba_xml_reader.specs.GrammarWords.{is_character}
+use Rattle.ba_xml_grammar.specs.GrammarWords.{is_character}
 use Rattle.std.proofs.Common.{eqb→eq, T}
-use Rattle.ba_xml_reader.specs.Classes.{is_space, is_first_letter, is_digit_or_dot, class_of, mark_of}
-use Rattle.ba_xml_reader.specs.declared.classes.Class.{Class}
-use Rattle.ba_xml_reader.specs.declared.classes.Class.TheVariants as class
+use Rattle.ba_xml_words.specs.Classes.{is_space, is_first_letter, is_digit_or_dot, class_of, mark_of}
+use Rattle.ba_xml_words.specs.declared.classes.Class.{Class}
+use Rattle.ba_xml_words.specs.declared.classes.Class.TheVariants as class
 
 -- no space and no control character
 abbrev pub IsVisible : ℕ → Type 0

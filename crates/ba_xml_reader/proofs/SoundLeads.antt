@@ -7,9 +7,9 @@ use Rattle.ba_xml_reader.proofs.SoundNames.{IsPart, LeadsName}
 use Rattle.ba_xml_reader.proofs.SoundPieces.{Follows, LeadsReference}
 use Rattle.ba_xml_reader.proofs.SoundSections.{LeadsSection}
 use Rattle.ba_xml_reader.proofs.SoundTags.{LeadsInTag, LeadsValue, LeadsValueReference, LeadsQuote, LeadsEquals, BehindName}
-use Rattle.ba_xml_reader.specs.Levels.{settled, with_child, tree_of, empty_tree, put_all}
-use Rattle.ba_xml_reader.specs.GrammarWords.{IsWhite}
-use Rattle.ba_xml_reader.specs.declared.levels.Level.{Level}
+use Rattle.ba_xml_names.specs.inside.Levels.{settled, with_child, tree_of, empty_tree, put_all}
+use Rattle.ba_xml_grammar.specs.GrammarWords.{IsWhite}
+use Rattle.ba_xml_names.specs.declared.levels.Level.{Level}
 use Rattle.ba_xml_reader.specs.declared.states.Mode.{Mode}
 use Rattle.ba_xml_reader.specs.declared.states.Mode.TheVariants as mode
 use Rattle.ba_xml_reader.specs.declared.states.Seen.{Seen}

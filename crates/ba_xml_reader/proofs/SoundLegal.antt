@@ -4,12 +4,12 @@ use Rattle.std.proofs.lemmas.Bool.{eqb-true, ltb-true, ltb-false, le-leb}
 use Rattle.ba_tree.specs.Characters as characters
 use Rattle.ba_xml_reader.proofs.CompleteReferences.{refers}
 use Rattle.ba_xml_reader.proofs.SoundReferences.{named_read, hash_read, HashRead}
-use Rattle.ba_xml_reader.specs.References.{is_legal, started, lettered, referred}
-use Rattle.ba_xml_reader.specs.GrammarWords.{Reference, less, greater, ampersand, apostrophe, quotation, decimal, hexadecimal, reference_text, character_of, IsReference}
-use Rattle.ba_xml_reader.specs.declared.references.Entity.TheVariants as entity
-use Rattle.ba_xml_reader.specs.declared.references.Partial.{Partial}
-use Rattle.ba_xml_reader.specs.declared.references.Partial.TheVariants.{Nothing, LetterA, Named, Hash}
-use Rattle.ba_xml_reader.specs.declared.references.Referred.TheVariants.{Wrong, On, Meant}
+use Rattle.ba_xml_words.specs.inside.References.{is_legal, started, lettered, referred}
+use Rattle.ba_xml_grammar.specs.GrammarWords.{Reference, less, greater, ampersand, apostrophe, quotation, decimal, hexadecimal, reference_text, character_of, IsReference}
+use Rattle.ba_xml_words.specs.declared.references.Entity.TheVariants as entity
+use Rattle.ba_xml_words.specs.declared.references.Partial.{Partial}
+use Rattle.ba_xml_words.specs.declared.references.Partial.TheVariants.{Nothing, LetterA, Named, Hash}
+use Rattle.ba_xml_words.specs.declared.references.Referred.TheVariants.{Wrong, On, Meant}
 
 or_right : (x y : Bool) → y ≡ true → (x || y) ≡ true
 or_right true y e = refl

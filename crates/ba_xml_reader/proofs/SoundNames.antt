@@ -1,14 +1,14 @@
 -- Names backward: what the machine takes for a name's bytes are those of a name.
 use Rattle.std.proofs.Common.{◌≡◌, ℕ, Bool, true, false, ◌||◌, List, [], ◌∷◌, ◌++◌, refl, sym, ap, subst, ◌∙◌, append_assoc, append-nil}
 use Rattle.ba_xml_reader.proofs.SoundKinds.{IsMark, mark_of_kind}
-use Rattle.ba_xml_reader.specs.Classes.{class_of, is_first_letter, is_digit_or_dot}
-use Rattle.ba_xml_reader.specs.Names.{spelled, joined, lettered, unlettered, parted, completed, grown}
-use Rattle.ba_xml_reader.specs.GrammarWords.{Each, is_name_letter, IsPrefix, IsName, written_prefix, written_name}
-use Rattle.ba_xml_reader.specs.declared.classes.Class.{Class}
-use Rattle.ba_xml_reader.specs.declared.classes.Class.TheVariants as class
-use Rattle.ba_xml_reader.specs.declared.names.RawName.{RawName}
-use Rattle.ba_xml_reader.specs.declared.names.Naming.{Naming}
-use Rattle.ba_xml_reader.specs.declared.names.Naming.TheVariants.{On, Whole, Wrong}
+use Rattle.ba_xml_words.specs.Classes.{class_of, is_first_letter, is_digit_or_dot}
+use Rattle.ba_xml_words.specs.inside.Names.{spelled, joined, lettered, unlettered, parted, completed, grown}
+use Rattle.ba_xml_grammar.specs.GrammarWords.{Each, is_name_letter, IsPrefix, IsName, written_prefix, written_name}
+use Rattle.ba_xml_words.specs.declared.classes.Class.{Class}
+use Rattle.ba_xml_words.specs.declared.classes.Class.TheVariants as class
+use Rattle.ba_xml_words.specs.declared.names.RawName.{RawName}
+use Rattle.ba_xml_words.specs.declared.names.Naming.{Naming}
+use Rattle.ba_xml_words.specs.declared.names.Naming.TheVariants.{On, Whole, Wrong}
 
 abbrev pub raw : List ℕ → List ℕ → RawName
 raw prefix local = record { prefix = prefix; local = local }

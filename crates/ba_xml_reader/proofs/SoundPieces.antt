@@ -8,16 +8,16 @@ use Rattle.ba_xml_reader.proofs.SoundSections.{LeadsSection}
 use Rattle.ba_xml_reader.proofs.CompleteContent.{brackets, section_word}
 use Rattle.ba_xml_reader.proofs.CompletePieces.{holding, content_after, text_after}
 use Rattle.ba_xml_reader.proofs.CompleteReferences.{refers}
-use Rattle.ba_xml_reader.specs.Classes.{is_space}
-use Rattle.ba_xml_reader.specs.Levels.{with_child, tree_of, put, put_all}
+use Rattle.ba_xml_words.specs.Classes.{is_space}
+use Rattle.ba_xml_names.specs.inside.Levels.{with_child, tree_of, put, put_all}
 use Rattle.ba_xml_reader.specs.Machine.{root_of}
-use Rattle.ba_xml_reader.specs.Namespaces.{scope}
-use Rattle.ba_xml_reader.specs.Grammar.{Pieces, nothing, character, reference, section, comment, Misc, misc_space, misc_comment, written, written_misc, row, Allowed, IsMisc, IsRoot, Resolves, Small}
-use Rattle.ba_xml_reader.specs.GrammarWords.{Nowhere, Differ, IsWhite, is_character, reference_text, character_of}
-use Rattle.ba_xml_reader.specs.declared.levels.Level.{Level}
-use Rattle.ba_xml_reader.specs.declared.references.Partial.{Partial}
-use Rattle.ba_xml_reader.specs.declared.references.Partial.TheVariants.{Nothing}
-use Rattle.ba_xml_reader.specs.declared.references.Referred.TheVariants.{On, Meant}
+use Rattle.ba_xml_names.specs.Namespaces.{scope}
+use Rattle.ba_xml_grammar.specs.Grammar.{Pieces, nothing, character, reference, section, comment, Misc, misc_space, misc_comment, written, written_misc, row, Allowed, IsMisc, IsRoot, Resolves, Small}
+use Rattle.ba_xml_grammar.specs.GrammarWords.{Nowhere, Differ, IsWhite, is_character, reference_text, character_of}
+use Rattle.ba_xml_names.specs.declared.levels.Level.{Level}
+use Rattle.ba_xml_words.specs.declared.references.Partial.{Partial}
+use Rattle.ba_xml_words.specs.declared.references.Partial.TheVariants.{Nothing}
+use Rattle.ba_xml_words.specs.declared.references.Referred.TheVariants.{On, Meant}
 use Rattle.ba_xml_reader.specs.declared.states.Seen.{Seen}
 use Rattle.ba_xml_reader.specs.declared.states.Seen.TheVariants.{Zero, One, Two}
 

@@ -3,18 +3,18 @@ use Rattle.std.proofs.Common.{◌≡◌, ℕ, ◌+◌, ◌*◌, Bool, true, fals
 use Rattle.std.proofs.lemmas.Bool.{eqb-true}
 use Rattle.std.specs.Char.{is_digit, digit_value}
 use Rattle.ba_xml_reader.proofs.CompleteReferences.{refers}
-use Rattle.ba_xml_reader.proofs.SoundWords.{LeftOf, word_left}
-use Rattle.ba_xml_reader.specs.References.{is_legal, entity_text, entity_code, base_of, named, named_by, with_digit, made, number_on, hashed, referred}
-use Rattle.ba_xml_reader.specs.Words.{reached_at}
-use Rattle.ba_xml_reader.specs.GrammarWords.{Each, number_behind}
-use Rattle.ba_xml_reader.specs.declared.words.Progress.{Progress}
-use Rattle.ba_xml_reader.specs.declared.words.Progress.TheVariants as progress
-use Rattle.ba_xml_reader.specs.declared.references.Entity.{Entity}
-use Rattle.ba_xml_reader.specs.declared.references.Radix.{Radix}
-use Rattle.ba_xml_reader.specs.declared.references.Radix.TheVariants.{Decimal, Hexadecimal}
-use Rattle.ba_xml_reader.specs.declared.references.Partial.{Partial}
-use Rattle.ba_xml_reader.specs.declared.references.Partial.TheVariants.{Named, Hash, HashX, Number}
-use Rattle.ba_xml_reader.specs.declared.references.Referred.TheVariants.{Wrong, On, Meant}
+use Rattle.ba_xml_words.proofs.SoundWords.{LeftOf, word_left}
+use Rattle.ba_xml_words.specs.inside.References.{is_legal, entity_text, entity_code, base_of, named, named_by, with_digit, made, number_on, hashed, referred}
+use Rattle.ba_xml_words.specs.inside.Words.{reached_at}
+use Rattle.ba_xml_grammar.specs.GrammarWords.{Each, number_behind}
+use Rattle.ba_xml_words.specs.declared.words.Progress.{Progress}
+use Rattle.ba_xml_words.specs.declared.words.Progress.TheVariants as progress
+use Rattle.ba_xml_words.specs.declared.references.Entity.{Entity}
+use Rattle.ba_xml_words.specs.declared.references.Radix.{Radix}
+use Rattle.ba_xml_words.specs.declared.references.Radix.TheVariants.{Decimal, Hexadecimal}
+use Rattle.ba_xml_words.specs.declared.references.Partial.{Partial}
+use Rattle.ba_xml_words.specs.declared.references.Partial.TheVariants.{Named, Hash, HashX, Number}
+use Rattle.ba_xml_words.specs.declared.references.Referred.TheVariants.{Wrong, On, Meant}
 
 wrong : (bs : List ℕ) (c : ℕ) → refers Wrong bs ≡ Meant c → ⊥
 wrong [] c e = cc

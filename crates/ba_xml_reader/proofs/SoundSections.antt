@@ -1,8 +1,8 @@
 -- CDATA sections backward: what follows in the machine's states inside a section is the rest of a section.
 use Rattle.std.proofs.Common.{◌≡◌, ℕ, true, List, [], ◌∷◌, ◌++◌, refl, sym, ap, subst, ◌∙◌, append_assoc, append-nil, ◌==◌, true≢false}
-use Rattle.ba_xml_reader.specs.Inside.{held}
-use Rattle.ba_xml_reader.specs.Grammar.{IsSection}
-use Rattle.ba_xml_reader.specs.GrammarWords.{IsFront, Nowhere, is_character}
+use Rattle.ba_xml_reader.specs.inside.Content.{held}
+use Rattle.ba_xml_grammar.specs.Grammar.{IsSection}
+use Rattle.ba_xml_grammar.specs.GrammarWords.{IsFront, Nowhere, is_character}
 use Rattle.ba_xml_reader.specs.declared.states.Seen.{Seen}
 use Rattle.ba_xml_reader.specs.declared.states.Seen.TheVariants.{Zero, One, Two}
 use Rattle.ba_xml_reader.proofs.CompleteContent.{brackets, section_word, brackets_before}

@@ -10,19 +10,19 @@ use Rattle.ba_xml_reader.proofs.SoundKinds.{IsMark, mark_told}
 use Rattle.ba_xml_reader.proofs.SoundLeads.{LeadsEnd, Leads, Goes}
 use Rattle.ba_xml_reader.proofs.SoundPieces.{Outside, Follows, comment_follows, space_follows, section_follows, end_follows}
 use Rattle.ba_xml_reader.proofs.CompleteSteps.{steps, none, one}
-use Rattle.ba_xml_reader.specs.Classes.{class_of}
-use Rattle.ba_xml_reader.specs.Inside.{open_after, starting_at, below, ending_at, inside_at, inside_after, outside_after, exclaimed_after, section_at, hyphened_after}
-use Rattle.ba_xml_reader.specs.Levels.{place_of, place_outside}
+use Rattle.ba_xml_words.specs.Classes.{class_of}
+use Rattle.ba_xml_reader.specs.inside.Content.{open_after, starting_at, below, ending_at, inside_at, inside_after, outside_after, exclaimed_after, section_at, hyphened_after}
+use Rattle.ba_xml_names.specs.inside.Levels.{place_of, place_outside}
 use Rattle.ba_xml_reader.specs.Machine.{root_of, act, state_after, ended_at}
-use Rattle.ba_xml_reader.specs.Names.{one_letter}
-use Rattle.ba_xml_reader.specs.Tags.{end_name_by, end_name_after, end_space_after, closed, slashed_after}
-use Rattle.ba_xml_reader.specs.Grammar.{misc_end}
-use Rattle.ba_xml_reader.specs.declared.classes.Class.{Class}
-use Rattle.ba_xml_reader.specs.declared.classes.Class.TheVariants as class
-use Rattle.ba_xml_reader.specs.declared.faults.Reason.TheVariants.{Depth}
-use Rattle.ba_xml_reader.specs.declared.levels.Level.{Level}
-use Rattle.ba_xml_reader.specs.declared.levels.Opening.{Opening}
-use Rattle.ba_xml_reader.specs.declared.rests.Meeting.TheVariants as meeting
+use Rattle.ba_xml_words.specs.inside.Names.{one_letter}
+use Rattle.ba_xml_reader.specs.inside.Tags.{end_name_by, end_name_after, end_space_after, closed, slashed_after}
+use Rattle.ba_xml_grammar.specs.Grammar.{misc_end}
+use Rattle.ba_xml_words.specs.declared.classes.Class.{Class}
+use Rattle.ba_xml_words.specs.declared.classes.Class.TheVariants as class
+use Rattle.ba_xml_words.specs.declared.faults.Reason.TheVariants.{Depth}
+use Rattle.ba_xml_names.specs.declared.levels.Level.{Level}
+use Rattle.ba_xml_names.specs.declared.levels.Opening.{Opening}
+use Rattle.ba_xml_words.specs.declared.remaining.Meeting.TheVariants as meeting
 use Rattle.ba_xml_reader.specs.declared.states.Mode.{Mode}
 use Rattle.ba_xml_reader.specs.declared.states.Mode.TheVariants as mode
 use Rattle.ba_xml_reader.specs.declared.states.Seen.{Seen}

@@ -4,17 +4,18 @@ use Rattle.ba_xml_reader.proofs.SoundLegal.{reference_read, IsRead}
 use Rattle.ba_xml_reader.proofs.SoundNames.{LeadsName, spelled_written}
 use Rattle.ba_xml_reader.proofs.CompleteReferences.{refers}
 use Rattle.ba_xml_reader.proofs.CompleteTags.{with_pairs}
-use Rattle.ba_xml_reader.specs.Classes.{is_space}
-use Rattle.ba_xml_reader.specs.Names.{spelled, one_letter}
-use Rattle.ba_xml_reader.specs.Tags.{with_attribute, no_value, with_value}
-use Rattle.ba_xml_reader.specs.Grammar.{Pair, Value, value_end, value_character, value_reference, written_value, written_pairs, value_of, attribute, IsValue, IsNew, ArePairs}
-use Rattle.ba_xml_reader.specs.GrammarWords.{Begun, Differ, IsWhite, is_character, IsName, written_name, reference_text, IsQuote}
-use Rattle.ba_xml_reader.specs.declared.names.RawName.{RawName}
-use Rattle.ba_xml_reader.specs.declared.names.RawAttribute.{RawAttribute}
-use Rattle.ba_xml_reader.specs.declared.references.Partial.{Partial}
-use Rattle.ba_xml_reader.specs.declared.references.Partial.TheVariants.{Nothing}
-use Rattle.ba_xml_reader.specs.declared.references.Referred.TheVariants.{On, Meant}
-use Rattle.ba_xml_reader.specs.declared.states.Tag.{Tag}
+use Rattle.ba_xml_words.specs.Classes.{is_space}
+use Rattle.ba_xml_words.specs.inside.Names.{spelled, one_letter}
+use Rattle.ba_xml_names.specs.inside.Tags.{with_attribute, with_value}
+use Rattle.ba_xml_reader.specs.inside.Tags.{no_value}
+use Rattle.ba_xml_grammar.specs.Grammar.{Pair, Value, value_end, value_character, value_reference, written_value, written_pairs, value_of, attribute, IsValue, IsNew, ArePairs}
+use Rattle.ba_xml_grammar.specs.GrammarWords.{Begun, Differ, IsWhite, is_character, IsName, written_name, reference_text, IsQuote}
+use Rattle.ba_xml_words.specs.declared.names.RawName.{RawName}
+use Rattle.ba_xml_words.specs.declared.names.RawAttribute.{RawAttribute}
+use Rattle.ba_xml_words.specs.declared.references.Partial.{Partial}
+use Rattle.ba_xml_words.specs.declared.references.Partial.TheVariants.{Nothing}
+use Rattle.ba_xml_words.specs.declared.references.Referred.TheVariants.{On, Meant}
+use Rattle.ba_xml_names.specs.declared.tags.Tag.{Tag}
 
 -- attributes of which the first one may have its white space behind it already
 abbrev pub AreMore : Bool → List RawAttribute → List Pair → Type 0

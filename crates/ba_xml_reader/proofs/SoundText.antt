@@ -7,15 +7,15 @@ use Rattle.ba_xml_reader.proofs.CompleteCharacters.{octets, lead_one}
 use Rattle.ba_xml_reader.proofs.SoundAnswer.{IsReadAs}
 use Rattle.ba_xml_reader.proofs.SoundBytes.{Fine, document_full}
 use Rattle.ba_xml_reader.proofs.SoundCharacters.{IsLow, AreLow, broken, same_octet, characters_back}
-use Rattle.ba_xml_reader.specs.Grammar.{Document, written_document, IsDocument}
-use Rattle.ba_xml_reader.specs.GrammarTexts.{lines, IsOfCharacters, IsXmlText}
-use Rattle.ba_xml_reader.specs.GrammarWords.{is_character}
-use Rattle.ba_xml_reader.specs.Octets.{octet_after}
-use Rattle.ba_xml_reader.specs.declared.faults.Reason.TheVariants.{NotUtf8}
-use Rattle.ba_xml_reader.specs.declared.octets.Octet.{Octet}
-use Rattle.ba_xml_reader.specs.declared.octets.Octet.TheVariants.{Between, One, Two, Three, AfterE0, AfterED, AfterEF, AfterEFBF, AfterF0, AfterF4}
-use Rattle.ba_xml_reader.specs.declared.octets.Decoding.{Decoding}
-use Rattle.ba_xml_reader.specs.declared.octets.Decoding.TheVariants.{At, Broken}
+use Rattle.ba_xml_grammar.specs.Grammar.{Document, written_document, IsDocument}
+use Rattle.ba_xml_grammar.specs.GrammarTexts.{lines, IsOfCharacters, IsXmlText}
+use Rattle.ba_xml_grammar.specs.GrammarWords.{is_character}
+use Rattle.ba_xml_words.specs.inside.Octets.{octet_after}
+use Rattle.ba_xml_words.specs.declared.faults.Reason.TheVariants.{NotUtf8}
+use Rattle.ba_xml_words.specs.declared.octets.Octet.{Octet}
+use Rattle.ba_xml_words.specs.declared.octets.Octet.TheVariants.{Between, One, Two, Three, AfterE0, AfterED, AfterEF, AfterEFBF, AfterF0, AfterF4}
+use Rattle.ba_xml_words.specs.declared.octets.Decoding.{Decoding}
+use Rattle.ba_xml_words.specs.declared.octets.Decoding.TheVariants.{At, Broken}
 
 -- ---- the raw bytes, by those with line ends made one
 
@@ -25,7 +25,7 @@ EndsLow [] = Unit {0}
 EndsLow (b ∷ bs) = (bs ≡ [] → b < 0x80) × EndsLow bs
 
 -- a byte of a character is a character where it is below 80
-low_character : (b : ℕ) → is_character b ≡ true → IsLow b
+pub low_character : (b : ℕ) → is_character b ≡ true → IsLow b
 low_character b c l = from (is_character b) c (agree_below_at (λ b. not (is_character b) || is_legal b) (λ b. true) 0x80 b refl l)
   where
     from : (x : Bool) → x ≡ true → (not x || is_legal b) ≡ true → is_legal b ≡ true

@@ -1,8 +1,8 @@
--- What a call that reads bytes may answer.
+-- Believe: what a call that reads bytes may answer.
 use Rattle.std.specs.Prelude.{◌≡◌, Result, Err}
 use Rattle.ba_tree.specs.declared.trees.Tree.{Tree}
-use Rattle.ba_xml_reader.specs.declared.faults.XmlFault.{XmlFault}
-use Rattle.ba_xml_reader.specs.declared.faults.XmlFault.TheVariants as fault
+use Rattle.ba_xml_words.specs.declared.faults.XmlFault.{XmlFault}
+use Rattle.ba_xml_words.specs.declared.faults.XmlFault.TheVariants as fault
 
 -- this answer, or want of memory
 abbrev pub IsAnswer : Result Tree XmlFault → Result Tree XmlFault → Type 0

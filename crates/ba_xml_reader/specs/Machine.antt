@@ -1,29 +1,29 @@
--- A text read byte by byte: the machine that the answer is defined by.
+-- Believe: the one answer to bytes, by a machine that takes them one by one; the laws say by the grammar which it is.
 use Rattle.std.specs.Prelude.{ℕ, ◌+◌, List, [], ◌∷◌, Bool, false, cond, ◌==◌, ◌&&◌, nat_lt, Option, Some, None, Result, Ok, Err}
 use Rattle.ba_tree.specs.declared.trees.Content.{Content, out-Content}
 use Rattle.ba_tree.specs.declared.trees.Content.TheOpen.{Content-F}
 use Rattle.ba_tree.specs.declared.trees.Tree.{Tree}
-use Rattle.ba_xml_reader.specs.Classes.{class_of}
-use Rattle.ba_xml_reader.specs.Inside.{begin_after, mark_one_after, mark_two_after, first_after, first_open_after, declaring_after, inside_after, open_after, exclaimed_after, hyphened_after, comment_after, bracketed_after, section_after, reference_after}
-use Rattle.ba_xml_reader.specs.Namespaces.{first_scope}
-use Rattle.ba_xml_reader.specs.Octets.{octet_after}
-use Rattle.ba_xml_reader.specs.Tags.{tag_name_after, in_tag_after, attribute_name_after, equals_after, quote_after, value_after, value_reference_after, slashed_after, end_name_after, end_space_after}
-use Rattle.ba_xml_reader.specs.declared.classes.Class.{Class}
-use Rattle.ba_xml_reader.specs.declared.faults.Reason.{Reason}
-use Rattle.ba_xml_reader.specs.declared.faults.Reason.TheVariants as reason
-use Rattle.ba_xml_reader.specs.declared.faults.XmlFault.{XmlFault}
-use Rattle.ba_xml_reader.specs.declared.faults.XmlFault.TheVariants as fault
-use Rattle.ba_xml_reader.specs.declared.levels.Level.{Level}
+use Rattle.ba_xml_words.specs.Classes.{class_of}
+use Rattle.ba_xml_reader.specs.inside.Content.{begin_after, mark_one_after, mark_two_after, first_after, first_open_after, declaring_after, inside_after, open_after, exclaimed_after, hyphened_after, comment_after, bracketed_after, section_after, reference_after}
+use Rattle.ba_xml_names.specs.Namespaces.{first_scope}
+use Rattle.ba_xml_words.specs.inside.Octets.{octet_after}
+use Rattle.ba_xml_reader.specs.inside.Tags.{tag_name_after, in_tag_after, attribute_name_after, equals_after, quote_after, value_after, value_reference_after, slashed_after, end_name_after, end_space_after}
+use Rattle.ba_xml_words.specs.declared.classes.Class.{Class}
+use Rattle.ba_xml_words.specs.declared.faults.Reason.{Reason}
+use Rattle.ba_xml_words.specs.declared.faults.Reason.TheVariants as reason
+use Rattle.ba_xml_words.specs.declared.faults.XmlFault.{XmlFault}
+use Rattle.ba_xml_words.specs.declared.faults.XmlFault.TheVariants as fault
+use Rattle.ba_xml_names.specs.declared.levels.Level.{Level}
 use Rattle.ba_xml_reader.specs.declared.machine.Refusal.{Refusal}
 use Rattle.ba_xml_reader.specs.declared.machine.Scan.{Scan}
-use Rattle.ba_xml_reader.specs.Turns.{Turn}
-use Rattle.ba_xml_reader.specs.Turns as turn
-use Rattle.ba_xml_reader.specs.Readings.{Reading}
-use Rattle.ba_xml_reader.specs.Readings as reading
-use Rattle.ba_xml_reader.specs.declared.octets.Octet.{Octet}
-use Rattle.ba_xml_reader.specs.declared.octets.Octet.TheVariants.{Between}
-use Rattle.ba_xml_reader.specs.declared.octets.Decoding.{Decoding}
-use Rattle.ba_xml_reader.specs.declared.octets.Decoding.TheVariants as decoding
+use Rattle.ba_xml_reader.specs.inside.Turns.{Turn}
+use Rattle.ba_xml_reader.specs.inside.Turns as turn
+use Rattle.ba_xml_reader.specs.inside.Readings.{Reading}
+use Rattle.ba_xml_reader.specs.inside.Readings as reading
+use Rattle.ba_xml_words.specs.declared.octets.Octet.{Octet}
+use Rattle.ba_xml_words.specs.declared.octets.Octet.TheVariants.{Between}
+use Rattle.ba_xml_words.specs.declared.octets.Decoding.{Decoding}
+use Rattle.ba_xml_words.specs.declared.octets.Decoding.TheVariants as decoding
 use Rattle.ba_xml_reader.specs.declared.states.Mode.{Mode}
 use Rattle.ba_xml_reader.specs.declared.states.Mode.TheVariants as mode
 use Rattle.ba_xml_reader.specs.declared.states.State.{State}

@@ -1,21 +1,16 @@
 //! What a byte does between tags: characters, comments, CDATA sections and references.
 ghost use Rattle.std.specs.Prelude.{◌≡◌, List as Items, IfOk, encode_utf8};
-ghost use Rattle.ba_xml_reader.specs.Levels.{place_of, put, put_all};
-ghost use Rattle.ba_xml_reader.specs.Inside.{begin_after, wanted_after, mark_one_after, mark_two_after, first_after, first_open_after, declaring_after, inside_after, outside_after, within_after, greater_after, one_more, open_after, ending_at, starting_at, exclaimed_after, section_at, hyphened_after, comment_after, comment_more, comment_end, bracketed_after, section_after, section_more, bracket_held, section_end, held, reference_after};
-ghost use Rattle.ba_xml_reader.specs.States.{LeadsTo, state_at};
+ghost use Rattle.ba_xml_names.specs.inside.Levels.{place_of, put, put_all};
+ghost use Rattle.ba_xml_reader.specs.inside.Content.{begin_after, wanted_after, mark_one_after, mark_two_after, first_after, first_open_after, declaring_after, inside_after, outside_after, within_after, greater_after, one_more, open_after, ending_at, starting_at, exclaimed_after, section_at, hyphened_after, comment_after, comment_more, comment_end, bracketed_after, section_after, section_more, bracket_held, section_end, held, reference_after};
+ghost use Rattle.ba_xml_reader.specs.inside.States.{LeadsTo, state_at};
 
-use crate::classes::Class;
-use crate::faults::Reason;
-use crate::headings::{Declared, declare};
-use crate::held::Held;
-use crate::levels::{Level, Place, place_next};
-use crate::names::{first_letter, with_byte, with_bytes};
-use crate::references::{Partial, Referred, refer};
-use crate::rests::Rest;
-use crate::stacks::Stack;
-use crate::states::{Heading, Mode, Next, Seen, State};
-use crate::words::{Progress, reached};
+use crate::states::{Mode, Next, Seen, State};
 use ba_core::{List, Memory, Octets};
+use ba_xml_names::{Held, Level, Place, Stack, place_next};
+use ba_xml_words::{
+    Class, Declared, Heading, Partial, Progress, Reason, Referred, Rest, declare, first_letter,
+    reached, refer, with_byte, with_bytes,
+};
 use std::alloc::Global;
 
 /// An element stands at this level at most.

@@ -1,26 +1,21 @@
 //! One byte of a text after another.
 ghost use Rattle.std.specs.Prelude.{◌≡◌, ◌+◌, Some, IfOk, OnOk};
 ghost use Rattle.ba_xml_reader.specs.Machine.{reading_at, start, act_by, state_after, unless_returned, line_end, turned, turned_as, refusal_in, counted, ended, reason_at, finished, root_of, child_of};
-ghost use Rattle.ba_xml_reader.specs.States.{state_at};
+ghost use Rattle.ba_xml_reader.specs.inside.States.{state_at};
 
-use crate::classes::{Class, classify};
 use crate::content::{
     begin, bracketed, comment, declaring, exclaimed, first, first_open, hyphened, inside, mark_one,
     mark_two, open, reference, section,
 };
-use crate::faults::Reason;
-use crate::held::Held;
-use crate::levels::Level;
-use crate::octets::{Decoding, Octet, decode};
-use crate::spaces::first_declarations;
-use crate::stacks::Stack;
 use crate::states::{Mode, Next, State};
 use crate::tags::{
     attribute_name, end_name, end_space, equals, in_tag, quote, slashed, tag_name, value,
     value_reference,
 };
 use ba_core::{List, Memory};
-use ba_tree::{Content, Name, Tree};
+use ba_tree::{Content, Name, Namespace, Tree};
+use ba_xml_names::{Held, Level, Stack, first_declarations};
+use ba_xml_words::{Class, Decoding, Octet, Reason, classify, decode};
 use std::alloc::Global;
 use std::mem;
 
@@ -63,7 +58,7 @@ pub fn begun(alloc: Global) -> Result<Scan, Memory>
     let document = Level {
         spelled: List::new(alloc),
         name: Name {
-            space: List::new(alloc),
+            space: Namespace::none(),
             local: List::new(alloc),
         },
         attributes: List::new(alloc),

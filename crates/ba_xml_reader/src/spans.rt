@@ -2,18 +2,15 @@
 ghost use Rattle.std.specs.Prelude.{◌≡◌, ◌≤◌, ◌<◌, ◌+◌, true, length, take, List as Items, IfOk, OnOk};
 ghost use Rattle.std.specs.List.{list_all};
 ghost use Rattle.ba_xml_reader.specs.Machine.{run, reading_at};
-ghost use Rattle.ba_xml_reader.specs.Readings.{Going};
-ghost use Rattle.ba_xml_reader.specs.Rests.{is_front};
-ghost use Rattle.ba_xml_reader.specs.Spans.{is_plain, is_letter, is_put, is_run, is_run_at, is_run_in, puts_in, puts_inside, with_span, with_span_at, with_span_in};
+ghost use Rattle.ba_xml_reader.specs.inside.Readings.{Going};
+ghost use Rattle.ba_xml_words.specs.inside.Remaining.{is_front};
+ghost use Rattle.ba_xml_reader.specs.inside.Spans.{is_plain, is_letter, is_put, is_run, is_run_at, is_run_in, puts_in, puts_inside, with_span, with_span_at, with_span_in};
 
-use crate::classes::is_first_letter;
-use crate::held::Held;
-use crate::levels::Level;
 use crate::machine::{MOST_BYTES, Refusal, Scan};
-use crate::octets::Octet;
-use crate::stacks::Stack;
 use crate::states::{Mode, Seen, State};
 use ba_core::Memory;
+use ba_xml_names::{Held, Level, Stack};
+use ba_xml_words::{Octet, is_first_letter};
 use std::alloc::Global;
 
 /// Which bytes are put on as they stand.

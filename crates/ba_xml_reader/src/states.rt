@@ -1,13 +1,8 @@
 //! Where a reading stands between two bytes.
 
-use crate::faults::Reason;
-use crate::held::Held;
-use crate::levels::{Level, Opening};
-use crate::names::{RawAttribute, RawName};
-use crate::references::Partial;
-use crate::rests::Rest;
-use crate::stacks::Stack;
 use ba_core::{List, Octets};
+use ba_xml_names::{Held, Level, Opening, Stack, Tag};
+use ba_xml_words::{Heading, Partial, RawAttribute, RawName, Reason, Rest};
 
 /// How many marks of a kind, of which three in a row would end or forbid something, were just read.
 #[derive(Clone, Copy, Debug, PartialEq, Eq)]
@@ -15,53 +10,6 @@ pub enum Seen {
     Zero,
     One,
     Two,
-}
-
-/// What the XML declaration says one after another (XML 1.0, production 23).
-#[derive(Clone, Copy, Debug, PartialEq, Eq)]
-pub enum Item {
-    Version,
-    Encoding,
-    Standalone,
-}
-
-/// What an item of the declaration may say.
-#[derive(Clone, Copy, Debug, PartialEq, Eq)]
-pub enum Setting {
-    OneZero,
-    Utf8,
-    Yes,
-    No,
-}
-
-/// What of the XML declaration is read.
-#[derive(Clone, Copy, Debug, PartialEq, Eq)]
-pub enum Heading {
-    /// `<?` and so many bytes of `xml`.
-    Target(usize),
-    /// `xml`, and white space if true.
-    Blank(bool),
-    /// This item, and white space behind it if true.
-    Behind(Item, bool),
-    /// So many bytes of an item's name.
-    Word(Item, usize),
-    /// An item's name.
-    Equals(Item),
-    /// An item's name and `=`.
-    Quote(Item),
-    /// A quote, and so many bytes of what the item says.
-    Said(Item, u8, Setting, usize),
-    /// What the item says, whole.
-    SaidAll(Item, u8),
-    /// `?`
-    Close,
-}
-
-/// A start tag as far as it is read.
-#[derive(Debug, Drop)]
-pub struct Tag {
-    pub name: RawName,
-    pub attributes: List<RawAttribute>,
 }
 
 /// What of a piece is read.

@@ -1,23 +1,20 @@
 //! What a byte does in start tags and end tags.
 ghost use Rattle.std.specs.Prelude.{◌≡◌, ◌∷◌, [], false, List as Items, IfOk, OnOk, encode_utf8};
-ghost use Rattle.ba_xml_reader.specs.Levels.{settled, with_child};
-ghost use Rattle.ba_xml_reader.specs.Names.{spelled};
-ghost use Rattle.ba_xml_reader.specs.Namespaces.{opening, scope};
-ghost use Rattle.ba_xml_reader.specs.States.{LeadsTo, state_at};
-ghost use Rattle.ba_xml_reader.specs.Tags.{tag_name_after, in_tag_after, begun_attribute, attribute_name_after, name_ended, equals_after, quote_after, no_value, value_after, value_more, value_reference_after, with_value, with_attribute, opened_at, slashed_at, slashed_after, end_name_after, end_space_after, closed};
+ghost use Rattle.ba_xml_names.specs.inside.Levels.{settled, with_child};
+ghost use Rattle.ba_xml_words.specs.inside.Names.{spelled};
+ghost use Rattle.ba_xml_names.specs.Namespaces.{opening, scope};
+ghost use Rattle.ba_xml_reader.specs.inside.States.{LeadsTo, state_at};
+ghost use Rattle.ba_xml_names.specs.inside.Tags.{with_value, with_attribute};
+ghost use Rattle.ba_xml_reader.specs.inside.Tags.{tag_name_after, in_tag_after, begun_attribute, attribute_name_after, name_ended, equals_after, quote_after, no_value, value_after, value_more, value_reference_after, opened_at, slashed_at, slashed_after, end_name_after, end_space_after, closed};
 
-use crate::classes::Class;
-use crate::faults::Reason;
-use crate::held::Held;
-use crate::levels::{Level, Opening};
-use crate::names::{Naming, RawAttribute, RawName, first_letter, is_among};
-use crate::references::{Partial, Referred, refer};
-use crate::rests::{Meeting, Rest};
-use crate::spaces::open_tag;
-use crate::stacks::Stack;
-use crate::states::{Mode, Next, Seen, State, Tag};
+use crate::states::{Mode, Next, Seen, State};
 use ba_core::{List, Memory, Octets};
 use ba_tree::Tree;
+use ba_xml_names::{Held, Level, Opening, Stack, Tag, open_tag};
+use ba_xml_words::{
+    Class, Meeting, Naming, Partial, RawAttribute, RawName, Reason, Referred, Rest, first_letter,
+    is_among, refer,
+};
 use std::alloc::Global;
 use std::mem;
 
@@ -352,33 +349,5 @@ fn close(
             here.add(ended.close(alloc)?)?;
             Ok(Next::On(Mode::Inside(Seen::Zero)))
         }
-    }
-}
-
-impl Held<Tag> {
-    // Puts one attribute more.
-    fn add(&mut self, attribute: Held<RawAttribute>) -> Result<(), Memory>
-        ensures { OnOk result (self.new ≡ with_attribute self.old attribute) }
-    {
-        self.inside
-            .attributes
-            .push(attribute.into_inner())
-            .map_err(|_| Memory)
-    }
-}
-
-impl Held<RawAttribute> {
-    // Puts one byte more in the value.
-    fn put(&mut self, b: u8) -> Result<(), Memory>
-        ensures { OnOk result (self.new ≡ with_value self.old (b ∷ [])) }
-    {
-        self.inside.value.push(b).map_err(|_| Memory)
-    }
-
-    /// Puts more bytes in the value.
-    pub fn put_all(&mut self, bytes: &[u8]) -> Result<(), Memory>
-        ensures { OnOk result (self.new ≡ with_value self.old bytes.now) }
-    {
-        self.inside.value.append(bytes)
     }
 }

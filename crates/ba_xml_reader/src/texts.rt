@@ -2,16 +2,16 @@
 ghost use Rattle.std.specs.Prelude.{◌≡◌, ◌≢◌, ◌+◌, ◌⊎◌, ℕ, take, Ok, Err, IfOk, IfErr};
 ghost use Rattle.ba_tree.specs.declared.trees.Tree.{Tree};
 ghost use Rattle.ba_xml_reader.specs.Answer.{IsAnswer};
-ghost use Rattle.ba_xml_reader.specs.GrammarTexts.{IsXmlText, CanContinue};
+ghost use Rattle.ba_xml_grammar.specs.GrammarTexts.{IsXmlText, CanContinue};
 ghost use Rattle.ba_xml_reader.specs.Machine.{xml_answer, answer_of};
-ghost use Rattle.ba_xml_reader.specs.Readings.{Going};
-ghost use Rattle.ba_xml_reader.specs.declared.faults.Reason.{Reason};
-ghost use Rattle.ba_xml_reader.specs.declared.faults.XmlFault.TheVariants as fault;
+ghost use Rattle.ba_xml_reader.specs.inside.Readings.{Going};
+ghost use Rattle.ba_xml_words.specs.declared.faults.Reason.{Reason};
+ghost use Rattle.ba_xml_words.specs.declared.faults.XmlFault.TheVariants as fault;
 
-use crate::faults::{Reason, XmlFault};
 use crate::machine::{Refusal, Scan, begun};
 use crate::spans::Taken;
 use ba_tree::Tree;
+use ba_xml_words::{Reason, XmlFault};
 use std::alloc::Global;
 
 /// Reads the bytes as a text of XML 1.0 with namespaces, in the part that this product takes, and gives its root:

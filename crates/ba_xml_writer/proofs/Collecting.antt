@@ -1,10 +1,9 @@
 -- Namespaces are held once each, in the order in which they are met.
 use Rattle.std.proofs.Common.{◌≡◌, ℕ, Bool, true, false, not, ◌&&◌, ◌||◌, List, [], ◌∷◌, ◌++◌, map, refl, sym, ap, ◌∙◌, append_assoc, append-nil, subst, add-one, length, length-append, drop, get_or, le_refl, ◌+◌, ◌<◌, ◌≤◌, arith, cond, if◌then◌else◌, filter}
-use Rattle.std.proofs.lemmas.List.{map-append, length-map}
+use Rattle.std.proofs.lemmas.List.{map-append}
 use Rattle.std.proofs.Math.Seq.{drop-cons}
 use Rattle.std.proofs.lemmas.List.Folds.{list_any-append}
 use Rattle.std.proofs.lemmas.Slice.Eq.{bytes_eq-Decides}
-use Rattle.std.specs.Borrow.{Bor}
 use Rattle.std.specs.List.{list_any}
 use Rattle.std.specs.Str.{bytes_eq}
 use Rattle.indexmap.specs.IndexSet.{insert_key}
@@ -16,24 +15,18 @@ use Rattle.ba_tree.specs.declared.trees.Tree.{Tree}
 use Rattle.ba_tree.proofs.TreeLaws.{elements_in}
 use Rattle.ba_xml_writer.specs.Collected.{taken, spaces_with, spaces_in, spaces_of}
 use Rattle.ba_xml_writer.specs.Namespaces.{is_further, further}
-use Rattle.ba_xml_writer.specs.Pages.{behind}
 
-pub any_behind : (s : List ℕ) (ks : List (Bor (List ℕ))) → list_any (λ k. bytes_eq s k.now) ks ≡ list_any (bytes_eq s) (behind ks)
-any_behind s [] = refl
-any_behind s (k ∷ ks) = ap (λ b. bytes_eq s k.now || b) (any_behind s ks)
+held_or_added : (b : Bool) (ks : List (List ℕ)) (k : List ℕ) → (if b then ks else ks ++ k ∷ []) ≡ (if not b then ks ++ k ∷ [] else ks)
+held_or_added true ks k = refl
+held_or_added false ks k = refl
 
-put_last : (b : Bool) (ks : List (Bor (List ℕ))) (k : Bor (List ℕ)) → behind (if b then ks else ks ++ k ∷ []) ≡ (if not b then behind ks ++ k.now ∷ [] else behind ks)
-put_last true ks k = refl
-put_last false ks k = map-append (λ r. r.now) ks (k ∷ [])
-
-pub inserted : (ks new : List (Bor (List ℕ))) (k : Bor (List ℕ)) (rest : List (List ℕ)) → is_further k.now ≡ true → new ≡ insert_key (λ x y. bytes_eq x.now y.now) ks k
-    → taken (behind new) rest ≡ taken (behind ks) (k.now ∷ rest)
+pub inserted : (ks new : List (List ℕ)) (k : List ℕ) (rest : List (List ℕ)) → is_further k ≡ true → new ≡ insert_key bytes_eq ks k
+    → taken new rest ≡ taken ks (k ∷ rest)
 inserted ks new k rest f e =
     ap (λ held. taken held rest)
-    (ap behind e
-    ∙ (ap (λ b. behind (if b then ks else ks ++ k ∷ [])) (any_behind k.now ks)
-    ∙ (put_last (list_any (bytes_eq k.now) (behind ks)) ks k
-    ∙ ap (λ b. if b && not (list_any (bytes_eq k.now) (behind ks)) then behind ks ++ k.now ∷ [] else behind ks) (sym f))))
+    (e
+    ∙ (held_or_added (list_any (bytes_eq k) ks) ks k
+    ∙ ap (λ b. if b && not (list_any (bytes_eq k) ks) then ks ++ k ∷ [] else ks) (sym f)))
 
 -- ---- the namespaces of a tree, part by part
 
@@ -146,14 +139,6 @@ collected t =
     taken_is (spaces_named t) []
     ∙ sym (sift is_further (fresh []) [] (firsts (spaces_named t)) none_further (λ y h. sym (and-true (is_further y))))
 
-same_back : (b : Bool) (x y : List ℕ) → bytes_eq y x ≡ b → bytes_eq x y ≡ b
-same_back true x y e = (bytes_eq-Decides x y).1 (sym ((bytes_eq-Decides y x).0 e))
-same_back false x y e = not_same (bytes_eq x y) y x refl e
-
-pub any_held : (s : List ℕ) (ks : List (Bor (List ℕ))) → list_any (λ k. bytes_eq k.now s) ks ≡ list_any (bytes_eq s) (behind ks)
-any_held s [] = refl
-any_held s (k ∷ ks) = ap (λ b. b || list_any (λ h. bytes_eq h.now s) ks) (same_back (bytes_eq s k.now) k.now s refl) ∙ ap (λ b. bytes_eq s k.now || b) (any_held s ks)
-
 -- ---- more than there is room for
 
 grown_step : (b : Bool) (held ss : List (List ℕ)) (s : List ℕ) → ((more : List (List ℕ)) → length more ≤ length (taken more ss))
@@ -175,9 +160,9 @@ past held s rest f e n =
     let more : length (held ++ s ∷ []) ≤ length (taken (held ++ s ∷ []) rest) = grown rest (held ++ s ∷ []) in
     omega (arith, ap length now, length-append held (s ∷ []))
 
-pub past_row : (ks : List (Bor (List ℕ))) (held : List (List ℕ)) (s : List ℕ) (rest : List (List ℕ)) → held ≡ behind ks → true ≡ is_further s → false ≡ list_any (bytes_eq s) held → length ks ≡ 28
-    → 28 < length (taken (behind ks) (s ∷ rest))
-past_row ks held s rest h f e n = past (behind ks) s rest f (ap (list_any (bytes_eq s)) (sym h) ∙ sym e) (length-map ks (λ k. k.now) ∙ n)
+pub past_row : (ks held : List (List ℕ)) (s : List ℕ) (rest : List (List ℕ)) → held ≡ ks → true ≡ is_further s
+    → false ≡ list_any (bytes_eq s) held → length ks ≡ 28 → 28 < length (taken ks (s ∷ rest))
+past_row ks held s rest h f e n = past ks s rest f (ap (list_any (bytes_eq s)) (sym h) ∙ sym e) n
 
 pub front_met : (list : List Content) (i : ℕ) (c : Content) (rest : List (List ℕ)) → i < length list → c ≡ get_or list i c
     → spaces_in (drop i list) rest ≡ spaces_of c ++ spaces_in (drop (i + 1) list) rest
@@ -187,6 +172,6 @@ pub still_over : (a b : List (List ℕ)) → a ≡ b → 28 < length a → 28 < 
 still_over a b e h = subst (λ (l : List (List ℕ)). 28 < length l) e h
 
 -- from nothing held to the further namespaces of a tree
-pub begun : (ks : List (Bor (List ℕ))) (t : Tree) → ks ≡ [] → taken (behind ks) (spaces_named t ++ []) ≡ further t
+pub begun : (ks : List (List ℕ)) (t : Tree) → ks ≡ [] → taken ks (spaces_named t ++ []) ≡ further t
 begun ks t e =
-    ap (λ l. taken (behind l) (spaces_named t ++ [])) e ∙ (ap (taken []) (append-nil (spaces_named t)) ∙ collected t)
+    ap (λ l. taken l (spaces_named t ++ [])) e ∙ (ap (taken []) (append-nil (spaces_named t)) ∙ collected t)

@@ -1,40 +1,23 @@
 -- Limits of a tree, said of its element and of what stands in it.
-use Rattle.std.proofs.Common.{◌≡◌, ◌≢◌, ℕ, ◌+◌, ◌-◌, ◌≤◌, ◌<◌, ◌&&◌, max, nat_le, Bool, true, List, [], ◌∷◌, map, length, suc, min, ◌^◌, refl, ap, sym, ◌∙◌, arith}
+use Rattle.std.proofs.Common.{◌≡◌, ℕ, ◌+◌, ◌-◌, ◌≤◌, ◌<◌, ◌&&◌, max, nat_le, true, List, [], ◌∷◌, map, length, suc, min, ◌^◌, refl, ap, sym, ◌∙◌, arith}
 use Rattle.std.proofs.lemmas.Bool.Decides.{nat_tests}
-use Rattle.std.proofs.lemmas.List.Folds.{list_all-append}
 use Rattle.std.specs.List.{list_all}
 use Rattle.ba_tree.specs.declared.trees.Tree.{Tree}
-use Rattle.ba_tree.specs.Trees.{greatest, levels, levels_of, within, joined}
-use Rattle.ba_tree.proofs.TreeLaws.{levels_in, elements_in}
+use Rattle.ba_tree.specs.Trees.{elements, greatest, most_attributes}
 use Rattle.ba_xml_writer.specs.Namespaces.{numbered, further}
 use Rattle.ba_xml_writer.specs.OneText.{one_text, root_text}
-use Rattle.ba_xml_writer.specs.Pages.{behind}
-use Rattle.std.specs.Borrow.{Bor}
-use Rattle.std.proofs.lemmas.List.{length-map}
 use Rattle.ba_xml_writer.specs.Writable.{has_few_attributes, HasRoom, IsShort}
 
 max_le : (a b n : ℕ) → (nat_le a n && nat_le b n) ≡ nat_le (max a b) n
 max_le a b n = grind (arith, nat_tests)
 
-suc_le : (a m : ℕ) → m ≢ 0 → nat_le a (m - 1) ≡ nat_le (1 + a) m
-suc_le a m h = grind (arith, nat_tests)
-
 all_below : {X : Type 0} (f : X → ℕ) (n : ℕ) (xs : List X) → list_all (λ x. nat_le (f x) n) xs ≡ nat_le (greatest (map f xs)) n
 all_below f n [] = grind (arith, nat_tests)
 all_below f n (x ∷ xs) = ap (λ b. nat_le (f x) n && b) (all_below f n xs) ∙ max_le (f x) (greatest (map f xs)) n
 
-pub deep_in : (t : Tree) (most : ℕ) → most ≢ 0 → list_all (λ c. nat_le (levels_of c) (most - 1)) t.content ≡ nat_le (levels t) most
-deep_in t most h =
-    all_below levels_of (most - 1) t.content ∙ (suc_le (greatest (map levels_of t.content)) most h ∙ ap (λ n. nat_le n most) (sym (levels_in t)))
-
-all_joined : {X Y : Type 0} (p : Y → Bool) (h : X → List Y) (xs : List X) → list_all p (joined (map h xs)) ≡ list_all (λ x. list_all p (h x)) xs
-all_joined p h [] = refl
-all_joined p h (x ∷ xs) = list_all-append p (h x) (joined (map h xs)) ∙ ap (λ b. list_all p (h x) && b) (all_joined p h xs)
-
-pub few_in : (t : Tree) → has_few_attributes t ≡ (nat_le (length t.attributes) 32 && list_all (λ c. list_all (λ e. nat_le (length e.attributes) 32) (within c).elements) t.content)
-few_in t =
-    ap (list_all (λ e. nat_le (length e.attributes) 32)) (elements_in t)
-    ∙ ap (λ b. nat_le (length t.attributes) 32 && b) (all_joined (λ e. nat_le (length e.attributes) 32) (λ c. (within c).elements) t.content)
+-- each element has at most 32 attributes where the greatest number of attributes is at most 32
+pub few_is : (t : Tree) → nat_le (most_attributes t) 32 ≡ has_few_attributes t
+few_is t = sym (all_below (λ e. length e.attributes) 32 (elements t))
 
 pub length-numbered : (n : ℕ) (fs : List (List ℕ)) → length (numbered n fs) ≡ length fs
 length-numbered n [] = refl
@@ -73,9 +56,6 @@ le_is n m h = grind (arith, nat_tests)
 pub is_le : (n m : ℕ) → n ≤ m → nat_le n m ≡ true
 is_le n m h = grind (arith, nat_tests)
 
-pub row_count : (ks : List (Bor (List ℕ))) (fs : List (List ℕ)) → behind ks ≡ fs → length ks ≡ length fs
-row_count ks fs e = sym (length-map ks (λ k. k.now)) ∙ ap length e
-
-pub text_is : (ks : List (Bor (List ℕ))) (t : Tree) (n : ℕ) → n ≡ min (length (root_text (behind ks) t)) (2 ^ 64 - 1) → behind ks ≡ further t
+pub text_is : (ks : List (List ℕ)) (t : Tree) (n : ℕ) → n ≡ min (length (root_text ks t)) (2 ^ 64 - 1) → ks ≡ further t
     → n ≡ min (length (one_text t)) (2 ^ 64 - 1)
 text_is ks t n e f = e ∙ ap (λ fs. min (length (root_text fs t)) (2 ^ 64 - 1)) f

@@ -1,4 +1,4 @@
--- What a writer holds of the namespaces that it has met, and which it meets on its way.
+-- Inside: what a writer holds of the namespaces that it has met, and which it meets on its way.
 use Rattle.std.specs.Prelude.{ℕ, not, ◌&&◌, List, [], ◌∷◌, ◌++◌, if◌then◌else◌, map}
 use Rattle.std.specs.List.{list_any}
 use Rattle.std.specs.Str.{bytes_eq}

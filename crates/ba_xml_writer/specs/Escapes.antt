@@ -1,4 +1,4 @@
--- Which escapes hold where, and what is left to write of bytes that are written in runs.
+-- Inside: which escapes hold where, and what is left to write of bytes that are written in runs.
 use Rattle.std.specs.Prelude.{ℕ, ◌-◌, List, ◌++◌, take, drop}
 use Rattle.ba_xml_writer.specs.OneText.{Escape, text_escapes, value_escapes, escaped}
 use Rattle.ba_xml_writer.specs.declared.scribe.Place.{Place}

@@ -2,6 +2,5 @@ pub mod Collected
 pub mod Escapes
 pub mod Namespaces
 pub mod OneText
-pub mod Pages
 pub mod Resolving
 pub mod Writable

@@ -1,4 +1,4 @@
--- The namespaces that a tree's names are in, and the prefixes by which its one text names them
+-- Believe: the namespaces that a tree's names are in, and the prefixes by which its one text names them
 -- (Namespaces in XML 1.0, sections 2 and 3).
 use Rattle.std.specs.Prelude.{ℕ, ◌+◌, List, [], ◌∷◌, ◌++◌, Bool, not, filter, codes, decimal}
 use Rattle.std.specs.List.{list_any}

@@ -1,4 +1,4 @@
--- The one text of a tree: its canonical spelling as an element (XML 1.0, sections 2.4, 3.1 and 4.1).
+-- Believe: the one text of a tree: its canonical spelling as an element (XML 1.0, sections 2.4, 3.1 and 4.1).
 -- Each function gives the bytes of its part, and then what follows.
 use Rattle.std.specs.Prelude.{ℕ, Bool, true, false, List, [], ◌∷◌, ◌++◌, if◌then◌else◌, nat_eq, codes}
 use Rattle.std.specs.Str.{bytes_eq}

@@ -1,4 +1,4 @@
--- What prefixes mean in the one text (Namespaces in XML 1.0, sections 4 to 6).
+-- Believe: what prefixes mean in the one text (Namespaces in XML 1.0, sections 4 to 6).
 use Rattle.std.specs.Prelude.{ℕ, Bool, true, not, ◌&&◌, List, [], ◌∷◌, ◌++◌, Option, None, Some, if◌then◌else◌, codes}
 use Rattle.std.specs.List.{list_any}
 use Rattle.std.specs.Str.{bytes_eq}

@@ -1,4 +1,4 @@
--- Which trees keep the rules and limits of texts.
+-- Believe: which trees keep the rules and limits of texts.
 use Rattle.std.specs.Prelude.{◌+◌, ◌≤◌, Bool, IsTrue, length, nat_le}
 use Rattle.std.specs.List.{list_all}
 use Rattle.ba_tree.specs.Trees.{elements, levels, is_fit_tree}

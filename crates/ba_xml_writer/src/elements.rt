@@ -3,10 +3,10 @@
 ghost use Rattle.std.specs.Prelude.{◌≡◌, ℕ, List, [], OnOk};
 ghost use Rattle.ba_xml_writer.specs.Namespaces.{declared, scope};
 ghost use Rattle.ba_xml_writer.specs.OneText.{ending, attributes, item, items, tree_text, tree_rest, root_text, is_empty};
-ghost use Rattle.ba_xml_writer.specs.Pages.{behind};
 
 use crate::pages::Page;
 use crate::scribe::{Place, put_attributes, put_declarations, put_escaped, put_name};
+use crate::space::Space;
 use ba_tree::{Content, Tree};
 
 fn has_none(list: &[Content]) -> bool
@@ -16,8 +16,8 @@ fn has_none(list: &[Content]) -> bool
 }
 
 #[cycle(elements)]
-fn put_item<P: Page>(page: &mut P, further: &[&[u8]], content: &Content) -> Result<(), P::Refusal>
-    ensures { OnOk result ((rest : List ℕ) → P.after page.new rest ≡ P.after page.old (item (scope (behind further.now)) content.now rest)) }
+fn put_item<P: Page>(page: &mut P, further: &[Space], content: &Content) -> Result<(), P::Refusal>
+    ensures { OnOk result ((rest : List ℕ) → P.after page.new rest ≡ P.after page.old (item (scope further.now) content.now rest)) }
 {
     match content {
         Content::Text(text) => put_escaped(page, Place::Text, text.as_slice()),
@@ -29,8 +29,8 @@ fn put_item<P: Page>(page: &mut P, further: &[&[u8]], content: &Content) -> Resu
 }
 
 #[cycle(elements)]
-fn put_items<P: Page>(page: &mut P, further: &[&[u8]], list: &[Content]) -> Result<(), P::Refusal>
-    ensures { OnOk result ((rest : List ℕ) → P.after page.new rest ≡ P.after page.old (items (scope (behind further.now)) list.now rest)) }
+fn put_items<P: Page>(page: &mut P, further: &[Space], list: &[Content]) -> Result<(), P::Refusal>
+    ensures { OnOk result ((rest : List ℕ) → P.after page.new rest ≡ P.after page.old (items (scope further.now) list.now rest)) }
 {
     for content in list {
         put_item(page, further, content)?;
@@ -40,8 +40,8 @@ fn put_items<P: Page>(page: &mut P, further: &[&[u8]], list: &[Content]) -> Resu
 
 /// Puts attributes, content and end of an element whose tag is begun.
 #[cycle(elements)]
-fn put_rest<P: Page>(page: &mut P, further: &[&[u8]], tree: &Tree) -> Result<(), P::Refusal>
-    ensures { OnOk result ((rest : List ℕ) → P.after page.new rest ≡ P.after page.old (tree_rest (scope (behind further.now)) tree.now rest)) }
+fn put_rest<P: Page>(page: &mut P, further: &[Space], tree: &Tree) -> Result<(), P::Refusal>
+    ensures { OnOk result ((rest : List ℕ) → P.after page.new rest ≡ P.after page.old (tree_rest (scope further.now) tree.now rest)) }
 {
     put_attributes(page, further, tree.attributes.as_slice())?;
     if has_none(tree.content.as_slice()) {
@@ -55,8 +55,8 @@ fn put_rest<P: Page>(page: &mut P, further: &[&[u8]], tree: &Tree) -> Result<(),
 }
 
 #[cycle(elements)]
-fn put_element<P: Page>(page: &mut P, further: &[&[u8]], tree: &Tree) -> Result<(), P::Refusal>
-    ensures { OnOk result ((rest : List ℕ) → P.after page.new rest ≡ P.after page.old (tree_text (scope (behind further.now)) [] tree.now rest)) }
+fn put_element<P: Page>(page: &mut P, further: &[Space], tree: &Tree) -> Result<(), P::Refusal>
+    ensures { OnOk result ((rest : List ℕ) → P.after page.new rest ≡ P.after page.old (tree_text (scope further.now) [] tree.now rest)) }
 {
     page.put(b"<")?;
     put_name(page, further, &tree.name)?;
@@ -64,8 +64,8 @@ fn put_element<P: Page>(page: &mut P, further: &[&[u8]], tree: &Tree) -> Result<
 }
 
 /// Puts a whole text: the root, whose tag declares all prefixes.
-pub fn put_root<P: Page>(page: &mut P, further: &[&[u8]], tree: &Tree) -> Result<(), P::Refusal>
-    ensures { OnOk result (P.after page.new [] ≡ P.after page.old (root_text (behind further.now) tree.now)) }
+pub fn put_root<P: Page>(page: &mut P, further: &[Space], tree: &Tree) -> Result<(), P::Refusal>
+    ensures { OnOk result (P.after page.new [] ≡ P.after page.old (root_text further.now tree.now)) }
 {
     page.put(b"<")?;
     put_name(page, further, &tree.name)?;

@@ -7,6 +7,7 @@ mod limits;
 mod pages;
 mod row;
 mod scribe;
+mod space;
 mod spaces;
 mod writer;
 

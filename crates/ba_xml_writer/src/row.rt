@@ -6,29 +6,29 @@ ghost use Rattle.std.specs.Str.{bytes_eq};
 ghost use Rattle.ba_tree.specs.Trees.{spaces_named};
 ghost use Rattle.ba_xml_writer.specs.Collected.{taken, spaces_with, spaces_of, spaces_in};
 ghost use Rattle.ba_xml_writer.specs.Namespaces.{further};
-ghost use Rattle.ba_xml_writer.specs.Pages.{behind};
 
+use crate::space::Space;
 use crate::spaces::needs_number;
 use arrayvec::ArrayVec;
 use ba_tree::{Attribute, Content, Tree};
 
 /// Namespaces, each once and in the order in which they came, at most as many as a tag can declare beside the
 /// four that it always declares.
-pub type Row<'a> = ArrayVec<&'a [u8], 28>;
+pub type Row<'a> = ArrayVec<Space<'a>, 28>;
 
 /// There is a namespace more than a row holds.
 #[derive(Clone, Copy, Debug, PartialEq, Eq)]
 pub struct TooMany;
 
-fn holds(spaces: &[&[u8]], space: &[u8]) -> bool
-    ensures { result ≡ list_any (bytes_eq space.now) (behind spaces.now) }
+fn holds(spaces: &[Space], space: &[u8]) -> bool
+    ensures { result ≡ list_any (bytes_eq space.now) spaces.now }
 {
-    spaces.contains(&space)
+    spaces.iter().any(|held| space == held.as_slice())
 }
 
 fn hold<'a>(row: &mut Row<'a>, space: &'a [u8]) -> Result<(), TooMany>
-    ensures held { OnOk result ((rest : List (List ℕ)) → taken (behind row.new.items) rest ≡ taken (behind row.old.items) (space.now ∷ rest)) }
-    ensures many { OnErr result ((rest : List (List ℕ)) → 28 < length (taken (behind row.old.items) (space.now ∷ rest))) }
+    ensures held { OnOk result ((rest : List (List ℕ)) → taken row.new.items rest ≡ taken row.old.items (space.now ∷ rest)) }
+    ensures many { OnErr result ((rest : List (List ℕ)) → 28 < length (taken row.old.items (space.now ∷ rest))) }
 {
     if !needs_number(space) {
         return Ok(());
@@ -36,15 +36,15 @@ fn hold<'a>(row: &mut Row<'a>, space: &'a [u8]) -> Result<(), TooMany>
     if holds(row.as_slice(), space) {
         return Ok(());
     }
-    match row.try_push(space) {
+    match row.try_push(Space::of(space)) {
         Ok(()) => Ok(()),
         Err(_) => Err(TooMany),
     }
 }
 
 fn hold_attributes<'a>(row: &mut Row<'a>, list: &'a [Attribute]) -> Result<(), TooMany>
-    ensures held { OnOk result ((rest : List (List ℕ)) → taken (behind row.new.items) rest ≡ taken (behind row.old.items) (spaces_with list.now rest)) }
-    ensures many { OnErr result ((rest : List (List ℕ)) → 28 < length (taken (behind row.old.items) (spaces_with list.now rest))) }
+    ensures held { OnOk result ((rest : List (List ℕ)) → taken row.new.items rest ≡ taken row.old.items (spaces_with list.now rest)) }
+    ensures many { OnErr result ((rest : List (List ℕ)) → 28 < length (taken row.old.items (spaces_with list.now rest))) }
 {
     for attribute in list {
         if let Err(many) = hold(row, attribute.name.space.as_slice()) {
@@ -56,8 +56,8 @@ fn hold_attributes<'a>(row: &mut Row<'a>, list: &'a [Attribute]) -> Result<(), T
 
 #[cycle(holding)]
 fn hold_item<'a>(row: &mut Row<'a>, content: &'a Content) -> Result<(), TooMany>
-    ensures held { OnOk result ((rest : List (List ℕ)) → taken (behind row.new.items) rest ≡ taken (behind row.old.items) (spaces_of content.now ++ rest)) }
-    ensures many { OnErr result ((rest : List (List ℕ)) → 28 < length (taken (behind row.old.items) (spaces_of content.now ++ rest))) }
+    ensures held { OnOk result ((rest : List (List ℕ)) → taken row.new.items rest ≡ taken row.old.items (spaces_of content.now ++ rest)) }
+    ensures many { OnErr result ((rest : List (List ℕ)) → 28 < length (taken row.old.items (spaces_of content.now ++ rest))) }
 {
     match content {
         Content::Text(_) => Ok(()),
@@ -67,8 +67,8 @@ fn hold_item<'a>(row: &mut Row<'a>, content: &'a Content) -> Result<(), TooMany>
 
 #[cycle(holding)]
 fn hold_items<'a>(row: &mut Row<'a>, list: &'a [Content]) -> Result<(), TooMany>
-    ensures held { OnOk result ((rest : List (List ℕ)) → taken (behind row.new.items) rest ≡ taken (behind row.old.items) (spaces_in list.now rest)) }
-    ensures many { OnErr result ((rest : List (List ℕ)) → 28 < length (taken (behind row.old.items) (spaces_in list.now rest))) }
+    ensures held { OnOk result ((rest : List (List ℕ)) → taken row.new.items rest ≡ taken row.old.items (spaces_in list.now rest)) }
+    ensures many { OnErr result ((rest : List (List ℕ)) → 28 < length (taken row.old.items (spaces_in list.now rest))) }
 {
     for content in list {
         if let Err(many) = hold_item(row, content) {
@@ -80,8 +80,8 @@ fn hold_items<'a>(row: &mut Row<'a>, list: &'a [Content]) -> Result<(), TooMany>
 
 #[cycle(holding)]
 fn hold_tree<'a>(row: &mut Row<'a>, tree: &'a Tree) -> Result<(), TooMany>
-    ensures held { OnOk result ((rest : List (List ℕ)) → taken (behind row.new.items) rest ≡ taken (behind row.old.items) (spaces_named tree.now ++ rest)) }
-    ensures many { OnErr result ((rest : List (List ℕ)) → 28 < length (taken (behind row.old.items) (spaces_named tree.now ++ rest))) }
+    ensures held { OnOk result ((rest : List (List ℕ)) → taken row.new.items rest ≡ taken row.old.items (spaces_named tree.now ++ rest)) }
+    ensures many { OnErr result ((rest : List (List ℕ)) → 28 < length (taken row.old.items (spaces_named tree.now ++ rest))) }
 {
     if let Err(many) = hold(row, tree.name.space.as_slice()) {
         return Err(many);
@@ -97,7 +97,7 @@ fn hold_tree<'a>(row: &mut Row<'a>, tree: &'a Tree) -> Result<(), TooMany>
 
 /// The further namespaces of a tree, or that they are more than 28.
 pub fn further_row(tree: &Tree) -> Result<Row<'_>, TooMany>
-    ensures row { IfOk result (λ row. behind row.items ≡ further tree.now) }
+    ensures row { IfOk result (λ row. row.items ≡ further tree.now) }
     ensures many { OnErr result (28 < length (further tree.now)) }
 {
     let mut row = ArrayVec::new();

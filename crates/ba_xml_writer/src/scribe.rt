@@ -5,21 +5,11 @@ ghost use Rattle.std.specs.Str.{bytes_eq};
 ghost use Rattle.ba_xml_writer.specs.Escapes.{escapes_of, waiting};
 ghost use Rattle.ba_xml_writer.specs.Namespaces.{Declaration, declaration, soap_space, wsa_space, wscoor_space, wsba_space, xml_space, fixed, numbered, declared, scope, xml};
 ghost use Rattle.ba_xml_writer.specs.OneText.{spelled, escaped, prefixed, qualified, valued, declarations, attributes, ending, element, item, items, tree_text, root_text, is_empty, value_escapes};
-ghost use Rattle.ba_xml_writer.specs.Pages.{behind};
 
 use crate::pages::Page;
-use ba_tree::{Attribute, Name};
+use crate::space::Space;
+use ba_tree::{Attribute, Name, SOAP_SPACE, WSA_SPACE, WSBA_SPACE, WSCOOR_SPACE, XML_SPACE};
 use itoa::Buffer;
-
-pub const XML: &[u8] = b"http://www.w3.org/XML/1998/namespace";
-
-pub const SOAP: &[u8] = b"http://schemas.xmlsoap.org/soap/envelope/";
-
-pub const WSA: &[u8] = b"http://www.w3.org/2005/08/addressing";
-
-pub const WSCOOR: &[u8] = b"http://docs.oasis-open.org/ws-tx/wscoor/2006/06";
-
-pub const WSBA: &[u8] = b"http://docs.oasis-open.org/ws-tx/wsba/2006/06";
 
 /// Where characters stand: between tags, or in the value of an attribute or a declaration.
 #[derive(Clone, Copy, Debug, PartialEq, Eq)]
@@ -89,15 +79,15 @@ pub fn is(bytes: &[u8], known: &[u8]) -> bool
 fn fixed_prefix(space: &[u8]) -> Option<&'static [u8]>
     ensures { (more : List Declaration) (rest : List ℕ) → MatchOption result (prefixed (xml ∷ fixed ++ more) space.now rest ≡ prefixed more space.now rest) (λ p. prefixed (xml ∷ fixed ++ more) space.now rest ≡ p.now ++ 58 ∷ rest) }
 {
-    if is(space, XML) {
+    if is(space, XML_SPACE) {
         Some(b"xml".as_slice())
-    } else if is(space, SOAP) {
+    } else if is(space, SOAP_SPACE) {
         Some(b"soap".as_slice())
-    } else if is(space, WSA) {
+    } else if is(space, WSA_SPACE) {
         Some(b"wsa".as_slice())
-    } else if is(space, WSCOOR) {
+    } else if is(space, WSCOOR_SPACE) {
         Some(b"wscoor".as_slice())
-    } else if is(space, WSBA) {
+    } else if is(space, WSBA_SPACE) {
         Some(b"wsba".as_slice())
     } else {
         None
@@ -113,13 +103,13 @@ fn put_number<P: Page>(page: &mut P, number: usize) -> Result<(), P::Refusal>
 
 /// The place of a namespace among the further ones.
 #[tactic(auto, using(crate::proofs::Prefixes::look))]
-fn place_of(further: &[&[u8]], space: &[u8]) -> Option<usize>
-    ensures found { (rest : List ℕ) → IfSome result (λ i. prefixed (numbered 1 (behind further.now)) space.now rest ≡ codes "n" ++ decimal (i + 1) ++ (codes ":" ++ rest)) }
+fn place_of(further: &[Space], space: &[u8]) -> Option<usize>
+    ensures found { (rest : List ℕ) → IfSome result (λ i. prefixed (numbered 1 further.now) space.now rest ≡ codes "n" ++ decimal (i + 1) ++ (codes ":" ++ rest)) }
     ensures within { IfSome result (λ i. i < length further.now) }
-    ensures none { (rest : List ℕ) → IfNone result (prefixed (numbered 1 (behind further.now)) space.now rest ≡ rest) }
+    ensures none { (rest : List ℕ) → IfNone result (prefixed (numbered 1 further.now) space.now rest ≡ rest) }
 {
     for (i, known) in further.iter().enumerate() {
-        if is(space, known) {
+        if is(space, known.as_slice()) {
             return Some(i);
         }
     }
@@ -127,8 +117,8 @@ fn place_of(further: &[&[u8]], space: &[u8]) -> Option<usize>
 }
 
 /// Puts the prefix of a namespace and a colon.
-fn put_prefix<P: Page>(page: &mut P, further: &[&[u8]], space: &[u8]) -> Result<(), P::Refusal>
-    ensures { OnOk result ((rest : List ℕ) → P.after page.new rest ≡ P.after page.old (prefixed (scope (behind further.now)) space.now rest)) }
+fn put_prefix<P: Page>(page: &mut P, further: &[Space], space: &[u8]) -> Result<(), P::Refusal>
+    ensures { OnOk result ((rest : List ℕ) → P.after page.new rest ≡ P.after page.old (prefixed (scope further.now) space.now rest)) }
 {
     if let Some(prefix) = fixed_prefix(space) {
         page.put(prefix)?;
@@ -141,8 +131,8 @@ fn put_prefix<P: Page>(page: &mut P, further: &[&[u8]], space: &[u8]) -> Result<
     page.put(b":")
 }
 
-pub fn put_name<P: Page>(page: &mut P, further: &[&[u8]], name: &Name) -> Result<(), P::Refusal>
-    ensures { OnOk result ((rest : List ℕ) → P.after page.new rest ≡ P.after page.old (qualified (scope (behind further.now)) name.now rest)) }
+pub fn put_name<P: Page>(page: &mut P, further: &[Space], name: &Name) -> Result<(), P::Refusal>
+    ensures { OnOk result ((rest : List ℕ) → P.after page.new rest ≡ P.after page.old (qualified (scope further.now) name.now rest)) }
 {
     put_prefix(page, further, name.space.as_slice())?;
     page.put(name.local.as_slice())
@@ -159,10 +149,10 @@ fn put_value<P: Page>(page: &mut P, value: &[u8]) -> Result<(), P::Refusal>
 
 pub fn put_attributes<P: Page>(
     page: &mut P,
-    further: &[&[u8]],
+    further: &[Space],
     list: &[Attribute],
 ) -> Result<(), P::Refusal>
-    ensures { OnOk result ((rest : List ℕ) → P.after page.new rest ≡ P.after page.old (attributes (scope (behind further.now)) list.now rest)) }
+    ensures { OnOk result ((rest : List ℕ) → P.after page.new rest ≡ P.after page.old (attributes (scope further.now) list.now rest)) }
 {
     for attribute in list {
         page.put(b" ")?;
@@ -184,10 +174,10 @@ fn put_declaration<P: Page>(page: &mut P, prefix: &[u8], space: &[u8]) -> Result
 fn put_fixed<P: Page>(page: &mut P) -> Result<(), P::Refusal>
     ensures { OnOk result ((more : List Declaration) (rest : List ℕ) → P.after page.new (declarations more rest) ≡ P.after page.old (declarations (fixed ++ more) rest)) }
 {
-    put_declaration(page, b"soap", SOAP)?;
-    put_declaration(page, b"wsa", WSA)?;
-    put_declaration(page, b"wscoor", WSCOOR)?;
-    put_declaration(page, b"wsba", WSBA)?;
+    put_declaration(page, b"soap", SOAP_SPACE)?;
+    put_declaration(page, b"wsa", WSA_SPACE)?;
+    put_declaration(page, b"wscoor", WSCOOR_SPACE)?;
+    put_declaration(page, b"wsba", WSBA_SPACE)?;
     Ok(())
 }
 
@@ -199,17 +189,17 @@ fn put_numbered<P: Page>(page: &mut P, number: usize, space: &[u8]) -> Result<()
     put_value(page, space)
 }
 
-fn put_further<P: Page>(page: &mut P, further: &[&[u8]]) -> Result<(), P::Refusal>
-    ensures { OnOk result ((rest : List ℕ) → P.after page.new rest ≡ P.after page.old (declarations (numbered 1 (behind further.now)) rest)) }
+fn put_further<P: Page>(page: &mut P, further: &[Space]) -> Result<(), P::Refusal>
+    ensures { OnOk result ((rest : List ℕ) → P.after page.new rest ≡ P.after page.old (declarations (numbered 1 further.now) rest)) }
 {
     for (i, space) in further.iter().enumerate() {
-        put_numbered(page, i + 1, space)?;
+        put_numbered(page, i + 1, space.as_slice())?;
     }
     Ok(())
 }
 
-pub fn put_declarations<P: Page>(page: &mut P, further: &[&[u8]]) -> Result<(), P::Refusal>
-    ensures { OnOk result ((rest : List ℕ) → P.after page.new rest ≡ P.after page.old (declarations (declared (behind further.now)) rest)) }
+pub fn put_declarations<P: Page>(page: &mut P, further: &[Space]) -> Result<(), P::Refusal>
+    ensures { OnOk result ((rest : List ℕ) → P.after page.new rest ≡ P.after page.old (declarations (declared further.now) rest)) }
 {
     put_fixed(page)?;
     put_further(page, further)

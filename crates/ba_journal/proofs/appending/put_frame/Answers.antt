@@ -1,7 +1,7 @@
-use Rattle.std.proofs.Common.{◌≡◌, ◌+◌, inl, inr, [], ◌∷◌, ◌++◌, length, refl, sym, ◌∙◌, ap, subst, arith, IsTrue, rules}
-use Rattle.ba_ports.specs.Disk.{Only, written_at}
+use Rattle.std.proofs.Common.{◌≡◌, ◌+◌, inl, inr, List, [], ◌∷◌, ◌++◌, length, refl, sym, ◌∙◌, ap, subst, arith, IsTrue, rules}
+use Rattle.ba_ports.specs.Disk.{Done, Only, Torn, written_at}
 use Rattle.ba_ports.proofs.Moments.{started, goes_on}
-use Rattle.ba_journal.specs.Calls.{AtRest, StandsWithOrWithout}
+use Rattle.ba_journal.specs.Journals.{AtRest, StandsWithOrWithout}
 use Rattle.ba_journal.specs.Frames.{StandsFor}
 use Rattle.ba_journal.proofs.FrameWrites.{length-written, written_behind, written_gate, length-after, stage_crash, gate_crash, after}
 use Rattle.ba_journal.proofs.appending.put_frame.Goals as goal
@@ -29,7 +29,7 @@ returns-in_err-write_at-clause-any_moment g c =
     let at_start = started D.later D.left_between d P (laws.no_call d) (λ f left. inl (subst (λ x. StandsFor x records) (sym (s.durable f (laws.only_now d f left))) (inr (0 ∷ [], s.at_rest)))) in
     let first = stage_crash file records n s.at_rest s.place (length b) _ _ s.durable (c.write_at.ensures.crash follows) in
     let f1 = subst IsTrue (sym c.write_at.ensures.follows) follows in
-    let behind = goes_on D.later D.left_between d d c.write_at.new.self P D.may_leave laws.call_after_call at_start (c.write_at.ensures.moments follows) (λ f now. inl (first f now)) in
+    let behind = goes_on D.later D.left_between d d c.write_at.new.self P _ laws.call_after_call at_start (c.write_at.ensures.moments follows) (λ f now. inl (stage_crash file records n s.at_rest s.place (length b) (D.may_leave d) (Done (Torn (n + 1) (length b)) (D.may_leave d)) s.durable (λ e x. x) f now)) in
     behind
 
 pub returns-in_err-sync-clause-any_moment : goal.returns-in_err-sync-clause-any_moment
@@ -45,9 +45,9 @@ returns-in_err-sync-clause-any_moment g c =
     let at_start = started D.later D.left_between d P (laws.no_call d) (λ f left. inl (subst (λ x. StandsFor x records) (sym (s.durable f (laws.only_now d f left))) (inr (0 ∷ [], s.at_rest)))) in
     let first = stage_crash file records n s.at_rest s.place (length b) _ _ s.durable (c.write_at.ensures.crash follows) in
     let f1 = subst IsTrue (sym c.write_at.ensures.follows) follows in
-    let behind = goes_on D.later D.left_between d d c.write_at.new.self P D.may_leave laws.call_after_call at_start (c.write_at.ensures.moments follows) (λ f now. inl (first f now)) in
+    let behind = goes_on D.later D.left_between d d c.write_at.new.self P _ laws.call_after_call at_start (c.write_at.ensures.moments follows) (λ f now. inl (stage_crash file records n s.at_rest s.place (length b) (D.may_leave d) (Done (Torn (n + 1) (length b)) (D.may_leave d)) s.durable (λ e x. x) f now)) in
     let f2 = subst IsTrue (sym c.sync.ensures.follows) f1 in
-    let kept = goes_on D.later D.left_between d c.write_at.new.self c.sync.new.self P D.may_leave laws.call_after_call behind (c.sync.ensures.moments f1) (λ f now. inl (first f (c.sync.ensures.crash f1 f now))) in
+    let kept = goes_on D.later D.left_between d c.write_at.new.self c.sync.new.self P _ laws.call_after_call behind (c.sync.ensures.moments f1) (λ f now. inl (first f now)) in
     kept
 
 pub returns-in_err-sync-clause-calls : goal.returns-in_err-sync-clause-calls
@@ -68,14 +68,14 @@ returns-in_err-write_at-2-clause-any_moment g c =
     let at_start = started D.later D.left_between d P (laws.no_call d) (λ f left. inl (subst (λ x. StandsFor x records) (sym (s.durable f (laws.only_now d f left))) (inr (0 ∷ [], s.at_rest)))) in
     let first = stage_crash file records n s.at_rest s.place (length b) _ _ s.durable (c.write_at.ensures.crash follows) in
     let f1 = subst IsTrue (sym c.write_at.ensures.follows) follows in
-    let behind = goes_on D.later D.left_between d d c.write_at.new.self P D.may_leave laws.call_after_call at_start (c.write_at.ensures.moments follows) (λ f now. inl (first f now)) in
+    let behind = goes_on D.later D.left_between d d c.write_at.new.self P _ laws.call_after_call at_start (c.write_at.ensures.moments follows) (λ f now. inl (stage_crash file records n s.at_rest s.place (length b) (D.may_leave d) (Done (Torn (n + 1) (length b)) (D.may_leave d)) s.durable (λ e x. x) f now)) in
     let f2 = subst IsTrue (sym c.sync.ensures.follows) f1 in
-    let kept = goes_on D.later D.left_between d c.write_at.new.self c.sync.new.self P D.may_leave laws.call_after_call behind (c.sync.ensures.moments f1) (λ f now. inl (first f (c.sync.ensures.crash f1 f now))) in
+    let kept = goes_on D.later D.left_between d c.write_at.new.self c.sync.new.self P _ laws.call_after_call behind (c.sync.ensures.moments f1) (λ f now. inl (first f now)) in
     let is_staged = c.in_ok-write_at.ensures.written follows ∙ written_behind file records n s.at_rest s.place b in
     let only_staged = subst (λ f. Only f (D.may_leave c.sync.new.self)) is_staged (c.in_ok-sync.ensures.durable f1) in
     let second = gate_crash file records n s.at_rest s.place last b frame _ _ only_staged (c.write_at-2.ensures.crash f2) in
     let f3 = subst IsTrue (sym c.write_at-2.ensures.follows) f2 in
-    let opened = goes_on D.later D.left_between d c.sync.new.self c.write_at-2.new.self P D.may_leave laws.call_after_call kept (c.write_at-2.ensures.moments f2) (λ f now. second f now) in
+    let opened = goes_on D.later D.left_between d c.sync.new.self c.write_at-2.new.self P _ laws.call_after_call kept (c.write_at-2.ensures.moments f2) (λ f now. gate_crash file records n s.at_rest s.place last b frame (D.may_leave c.sync.new.self) (Done (Torn n 1) (D.may_leave c.sync.new.self)) only_staged (λ e x. x) f now) in
     opened
 
 pub returns-in_err-write_at-2-clause-calls : goal.returns-in_err-write_at-2-clause-calls
@@ -97,15 +97,15 @@ returns-in_err-sync-2-clause-any_moment g c =
     let at_start = started D.later D.left_between d P (laws.no_call d) (λ f left. inl (subst (λ x. StandsFor x records) (sym (s.durable f (laws.only_now d f left))) (inr (0 ∷ [], s.at_rest)))) in
     let first = stage_crash file records n s.at_rest s.place (length b) _ _ s.durable (c.write_at.ensures.crash follows) in
     let f1 = subst IsTrue (sym c.write_at.ensures.follows) follows in
-    let behind = goes_on D.later D.left_between d d c.write_at.new.self P D.may_leave laws.call_after_call at_start (c.write_at.ensures.moments follows) (λ f now. inl (first f now)) in
+    let behind = goes_on D.later D.left_between d d c.write_at.new.self P _ laws.call_after_call at_start (c.write_at.ensures.moments follows) (λ f now. inl (stage_crash file records n s.at_rest s.place (length b) (D.may_leave d) (Done (Torn (n + 1) (length b)) (D.may_leave d)) s.durable (λ e x. x) f now)) in
     let f2 = subst IsTrue (sym c.sync.ensures.follows) f1 in
-    let kept = goes_on D.later D.left_between d c.write_at.new.self c.sync.new.self P D.may_leave laws.call_after_call behind (c.sync.ensures.moments f1) (λ f now. inl (first f (c.sync.ensures.crash f1 f now))) in
+    let kept = goes_on D.later D.left_between d c.write_at.new.self c.sync.new.self P _ laws.call_after_call behind (c.sync.ensures.moments f1) (λ f now. inl (first f now)) in
     let is_staged = c.in_ok-write_at.ensures.written follows ∙ written_behind file records n s.at_rest s.place b in
     let only_staged = subst (λ f. Only f (D.may_leave c.sync.new.self)) is_staged (c.in_ok-sync.ensures.durable f1) in
     let second = gate_crash file records n s.at_rest s.place last b frame _ _ only_staged (c.write_at-2.ensures.crash f2) in
     let f3 = subst IsTrue (sym c.write_at-2.ensures.follows) f2 in
-    let opened = goes_on D.later D.left_between d c.sync.new.self c.write_at-2.new.self P D.may_leave laws.call_after_call kept (c.write_at-2.ensures.moments f2) (λ f now. second f now) in
-    let ended = goes_on D.later D.left_between d c.write_at-2.new.self c.sync-2.new.self P D.may_leave laws.call_after_call opened (c.sync-2.ensures.moments f3) (λ f now. second f (c.sync-2.ensures.crash f3 f now)) in
+    let opened = goes_on D.later D.left_between d c.sync.new.self c.write_at-2.new.self P _ laws.call_after_call kept (c.write_at-2.ensures.moments f2) (λ f now. gate_crash file records n s.at_rest s.place last b frame (D.may_leave c.sync.new.self) (Done (Torn n 1) (D.may_leave c.sync.new.self)) only_staged (λ e x. x) f now) in
+    let ended = goes_on D.later D.left_between d c.write_at-2.new.self c.sync-2.new.self P _ laws.call_after_call opened (c.sync-2.ensures.moments f3) (λ f now. second f now) in
     ended
 
 pub returns-in_err-sync-2-clause-calls : goal.returns-in_err-sync-2-clause-calls
@@ -149,15 +149,15 @@ returns-clause-any_moment g c =
     let at_start = started D.later D.left_between d P (laws.no_call d) (λ f left. inl (subst (λ x. StandsFor x records) (sym (s.durable f (laws.only_now d f left))) (inr (0 ∷ [], s.at_rest)))) in
     let first = stage_crash file records n s.at_rest s.place (length b) _ _ s.durable (c.write_at.ensures.crash follows) in
     let f1 = subst IsTrue (sym c.write_at.ensures.follows) follows in
-    let behind = goes_on D.later D.left_between d d c.write_at.new.self P D.may_leave laws.call_after_call at_start (c.write_at.ensures.moments follows) (λ f now. inl (first f now)) in
+    let behind = goes_on D.later D.left_between d d c.write_at.new.self P _ laws.call_after_call at_start (c.write_at.ensures.moments follows) (λ f now. inl (stage_crash file records n s.at_rest s.place (length b) (D.may_leave d) (Done (Torn (n + 1) (length b)) (D.may_leave d)) s.durable (λ e x. x) f now)) in
     let f2 = subst IsTrue (sym c.sync.ensures.follows) f1 in
-    let kept = goes_on D.later D.left_between d c.write_at.new.self c.sync.new.self P D.may_leave laws.call_after_call behind (c.sync.ensures.moments f1) (λ f now. inl (first f (c.sync.ensures.crash f1 f now))) in
+    let kept = goes_on D.later D.left_between d c.write_at.new.self c.sync.new.self P _ laws.call_after_call behind (c.sync.ensures.moments f1) (λ f now. inl (first f now)) in
     let is_staged = c.in_ok-write_at.ensures.written follows ∙ written_behind file records n s.at_rest s.place b in
     let only_staged = subst (λ f. Only f (D.may_leave c.sync.new.self)) is_staged (c.in_ok-sync.ensures.durable f1) in
     let second = gate_crash file records n s.at_rest s.place last b frame _ _ only_staged (c.write_at-2.ensures.crash f2) in
     let f3 = subst IsTrue (sym c.write_at-2.ensures.follows) f2 in
-    let opened = goes_on D.later D.left_between d c.sync.new.self c.write_at-2.new.self P D.may_leave laws.call_after_call kept (c.write_at-2.ensures.moments f2) (λ f now. second f now) in
-    let ended = goes_on D.later D.left_between d c.write_at-2.new.self c.sync-2.new.self P D.may_leave laws.call_after_call opened (c.sync-2.ensures.moments f3) (λ f now. second f (c.sync-2.ensures.crash f3 f now)) in
+    let opened = goes_on D.later D.left_between d c.sync.new.self c.write_at-2.new.self P _ laws.call_after_call kept (c.write_at-2.ensures.moments f2) (λ f now. gate_crash file records n s.at_rest s.place last b frame (D.may_leave c.sync.new.self) (Done (Torn n 1) (D.may_leave c.sync.new.self)) only_staged (λ e x. x) f now) in
+    let ended = goes_on D.later D.left_between d c.write_at-2.new.self c.sync-2.new.self P _ laws.call_after_call opened (c.sync-2.ensures.moments f3) (λ f now. second f now) in
     ended
 
 pub returns-clause-calls : goal.returns-clause-calls

@@ -1,5 +1,5 @@
 use Rattle.std.proofs.Common.{length, take, drop, ◌≡◌, ◌-◌, ◌≤◌, IsTrue}
-use Rattle.ba_journal.specs.Looks.{Looked}
+use Rattle.ba_journal.specs.inside.Looks.{Looked}
 use Rattle.ba_journal.proofs.looks.look_at_all.Given as goal
 
 abbrev pub invariant-reads : goal.invariant-reads

@@ -3,7 +3,7 @@ use Rattle.ba_ports.specs.Disk.{InTurn, Only, written_at}
 use Rattle.ba_ports.proofs.Moments.{started}
 use Rattle.ba_ports.specs.declared.requests.Request.TheVariants.{WriteAt, Cut, Sync}
 use Rattle.ba_journal.specs.Frames.{StandsFor}
-use Rattle.ba_journal.specs.Openings.{making}
+use Rattle.ba_journal.specs.Loads.{making}
 use Rattle.ba_journal.proofs.NewFile.{behind_first, cut_is_fresh, first_is_fresh, others_are_fresh, first_set}
 use Rattle.ba_journal.proofs.Turns.{in_turn_on, in_turn_stopped, changing}
 use Rattle.ba_journal.proofs.making.make_file.Goals as goal

@@ -2,9 +2,9 @@ use Rattle.std.proofs.Common.{inr, [], ◌∷◌, ◌++◌, ◌+◌, List, ℕ, 
 use Rattle.ba_ports.specs.Disk.{InTurn, Only, written_at}
 use Rattle.ba_ports.specs.declared.requests.Request.TheVariants.{WriteAt, Cut, Sync}
 use Rattle.ba_ports.proofs.Moments.{started}
-use Rattle.ba_journal.specs.Calls.{AtRest}
+use Rattle.ba_journal.specs.Journals.{AtRest}
 use Rattle.ba_journal.specs.Frames.{StandsFor}
-use Rattle.ba_journal.specs.Openings.{repairing}
+use Rattle.ba_journal.specs.Loads.{repairing}
 use Rattle.ba_journal.specs.Readings.{IsTail}
 use Rattle.ba_journal.specs.declared.readings.Tail.{Tail}
 use Rattle.ba_journal.proofs.Ends.{gated, own, cut_stands, cut_done, gate_stands, gate_written, stands_with, at_rest_with, length-with, closed_is_zero}

@@ -3,5 +3,6 @@ use Rattle.ba_ports.proofs.Moments.{goes_on}
 use Rattle.ba_ports.proofs.laws.tests_go_on.Goals as goal
 
 pub returns : goal.returns
-returns g c = λ old mid new test so_far passes here.
-    goes_on g.D.Disk.later g.D.Disk.left_between old mid new (λ (c : List ℕ). IsTrue (test c)) g.D.Disk.may_leave g.met.D.Disk.call_after_call so_far passes here
+returns g c = λ old mid new test during so_far passes here.
+    goes_on g.D.Disk.later g.D.Disk.left_between old mid new (λ (c : List ℕ). IsTrue (test c))
+    (λ (c : List ℕ). IsTrue (during c)) g.met.D.Disk.call_after_call so_far passes here

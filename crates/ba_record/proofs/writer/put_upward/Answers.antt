@@ -1,6 +1,6 @@
 use Rattle.std.proofs.Common.{Option, [], ◌∷◌, ◌++◌, ap, sym, ◌∙◌}
 use Rattle.ba_core.specs.declared.protocols.Protocol.{Protocol}
-use Rattle.ba_tree.specs.declared.endpoints.Epr.{Epr}
+use Rattle.ba_message.specs.declared.endpoints.Epr.{Epr}
 use Rattle.ba_record.specs.Coding.{protocol_code, endpoint_coding, option_coding, upward_coding}
 use Rattle.ba_record.specs.Rooms.{filled}
 use Rattle.ba_record.proofs.Parts.{put_behind}

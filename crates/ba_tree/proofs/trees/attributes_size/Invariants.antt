@@ -1,7 +1,7 @@
 -- The size so far is that of the attributes so far.
 use Rattle.std.proofs.Common.{◌≡◌, take}
 use Rattle.std.specs.List.{sum_by}
-use Rattle.ba_tree.specs.Endpoints.{attribute_length, in_u64}
+use Rattle.ba_tree.specs.Lengths.{attribute_length, in_u64}
 use Rattle.ba_tree.proofs.trees.attributes_size.Given as goal
 
 abbrev pub invariant-loop-attribute : goal.invariant-loop-attribute

@@ -1,6 +1,6 @@
 use Rattle.std.proofs.Common.{ap, ◌∙◌}
 use Rattle.ba_xml_reader.specs.Machine.{answer_of, run, start}
-use Rattle.ba_xml_reader.specs.Readings.{Going}
+use Rattle.ba_xml_reader.specs.inside.Readings.{Going}
 use Rattle.ba_xml_reader.proofs.Kept.{stays}
 use Rattle.ba_xml_reader.proofs.Runs.{run_append}
 use Rattle.ba_xml_reader.proofs.laws.refusals_stay.Goals as goal

@@ -1,5 +1,5 @@
 use Rattle.ba_xml_reader.proofs.Dead.{dead}
-use Rattle.ba_xml_reader.specs.declared.faults.Reason.TheVariants as reason
+use Rattle.ba_xml_words.specs.declared.faults.Reason.TheVariants as reason
 use Rattle.ba_xml_reader.proofs.laws.refused_fronts_are_dead.Goals as goal
 
 pub returns-clause-utf8 : goal.returns-clause-utf8

@@ -1,7 +1,7 @@
 use Rattle.std.proofs.Common.{ap₂, sym, ◌∙◌, ◌&&◌, arith}
 use Rattle.std.proofs.lemmas.List.Folds.{list_all_more}
-use Rattle.ba_xml_reader.specs.Spans.{is_plain}
-use Rattle.ba_xml_reader.proofs.Fronts.{front_more}
+use Rattle.ba_xml_reader.specs.inside.Spans.{is_plain}
+use Rattle.ba_xml_words.proofs.Fronts.{front_more}
 use Rattle.ba_xml_reader.proofs.spans.front_length.Goals as goal
 
 pub loop-length-preserved : goal.loop-length-preserved

@@ -1,7 +1,7 @@
 -- The bytes so far are all put on.
 use Rattle.std.proofs.Common.{◌≡◌, ◌≤◌, ◌-◌, true, take, length}
 use Rattle.std.specs.List.{list_all}
-use Rattle.ba_xml_reader.specs.Spans.{is_put}
+use Rattle.ba_xml_reader.specs.inside.Spans.{is_put}
 use Rattle.ba_xml_reader.proofs.spans.span_length.Given as goal
 
 abbrev pub invariant-loop-length : goal.invariant-loop-length

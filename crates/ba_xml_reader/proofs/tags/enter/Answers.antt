@@ -1,8 +1,8 @@
 use Rattle.std.proofs.Common.{◌∷◌, ◌∙◌, ap}
-use Rattle.ba_xml_reader.specs.Names.{spelled}
-use Rattle.ba_xml_reader.specs.Namespaces.{opening, scope}
-use Rattle.ba_xml_reader.specs.declared.levels.Level.{Level}
-use Rattle.ba_xml_reader.specs.declared.states.Tag.{Tag}
+use Rattle.ba_xml_words.specs.inside.Names.{spelled}
+use Rattle.ba_xml_names.specs.Namespaces.{opening, scope}
+use Rattle.ba_xml_names.specs.declared.levels.Level.{Level}
+use Rattle.ba_xml_names.specs.declared.tags.Tag.{Tag}
 use Rattle.ba_xml_reader.proofs.tags.enter.Goals as goal
 
 pub returns : goal.returns

@@ -1,7 +1,7 @@
 use Rattle.std.proofs.Common.{◌+◌, Err, ap, sym, ◌∙◌, arith}
 use Rattle.ba_xml_reader.specs.Machine.{run, answer_of, reading_at}
-use Rattle.ba_xml_reader.specs.Readings.{Going}
-use Rattle.ba_xml_reader.specs.declared.faults.XmlFault.TheVariants as fault
+use Rattle.ba_xml_reader.specs.inside.Readings.{Going}
+use Rattle.ba_xml_words.specs.declared.faults.XmlFault.TheVariants as fault
 use Rattle.ba_xml_reader.proofs.Answered.{text_read, only_tree, no_text, dead_front}
 use Rattle.ba_xml_reader.proofs.Runs.{goes_on, stops, ends, is_answer}
 use Rattle.ba_xml_reader.proofs.texts.read.Goals as goal

@@ -1,6 +1,6 @@
 use Rattle.std.proofs.Common.{◌≡◌, ◌≤◌, ◌-◌, drop, length}
 use Rattle.ba_xml_reader.specs.Machine.{run}
-use Rattle.ba_xml_reader.specs.Readings.{Going}
+use Rattle.ba_xml_reader.specs.inside.Readings.{Going}
 use Rattle.ba_xml_reader.proofs.texts.read.Given as goal
 
 -- the bytes that are left lead from here to where all lead from the start

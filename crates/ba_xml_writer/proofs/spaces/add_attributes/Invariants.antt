@@ -1,8 +1,7 @@
 use Rattle.std.proofs.Common.{◌≡◌, ℕ, List, drop}
 use Rattle.ba_xml_writer.specs.Collected.{taken, spaces_with}
-use Rattle.ba_xml_writer.specs.Pages.{behind}
 use Rattle.ba_xml_writer.proofs.spaces.add_attributes.Given as goal
 
 abbrev pub invariant-loop-attribute : goal.invariant-loop-attribute
-invariant-loop-attribute l = (rest : List (List ℕ)) → taken (behind l.spaces.keys) (spaces_with (drop l.attribute-index l.list) rest)
-    ≡ taken (behind l.initial.spaces.keys) (spaces_with l.list rest)
+invariant-loop-attribute l = (rest : List (List ℕ)) → taken l.spaces.keys (spaces_with (drop l.attribute-index l.list) rest)
+    ≡ taken l.initial.spaces.keys (spaces_with l.list rest)

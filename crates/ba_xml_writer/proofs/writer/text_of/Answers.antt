@@ -1,8 +1,7 @@
-use Rattle.std.proofs.Common.{◌≡◌, ◌∙◌, ap, sym, List, ℕ, [], ◌++◌, append-nil}
+use Rattle.std.proofs.Common.{◌≡◌, ◌∙◌, sym, List, ℕ, [], ◌++◌, append-nil}
 use Rattle.ba_tree.specs.declared.trees.Tree.{Tree}
 use Rattle.ba_xml_writer.specs.Namespaces.{further}
 use Rattle.ba_xml_writer.specs.OneText.{root_text, one_text}
-use Rattle.ba_xml_writer.specs.Pages.{behind}
 use Rattle.ba_xml_writer.proofs.writer.text_of.Goals as goal
 
 whole : (new old : List ℕ) (spaces : List (List ℕ)) (t : Tree) → new ++ [] ≡ old ++ root_text spaces t → old ≡ [] → spaces ≡ further t → new ≡ one_text t
@@ -10,5 +9,5 @@ whole new old spaces t put begun met = sym (append-nil new) ∙ (put ∙ (λ i. 
 
 pub returns : goal.returns
 returns c =
-    whole c.put_root.new.page c.new-text.result (behind c.as_slice.result.now) c.args.tree.now c.in_ok-put_root.ensures c.new-text.ensures
-    (ap behind c.as_slice.ensures.keys ∙ c.in_ok-spaces.ensures)
+    whole c.put_root.new.page c.new-text.result c.as_slice.result.now c.args.tree.now c.in_ok-put_root.ensures c.new-text.ensures
+    (c.as_slice.ensures.keys ∙ c.in_ok-spaces.ensures)

@@ -1,7 +1,7 @@
 use Rattle.std.proofs.Common.{◌≡◌, ◌+◌, ◌-◌, ◌≤◌, length, drop, take, slice_range, arith, rules, length-take, length-drop}
 use Rattle.std.proofs.lemmas.List.{with_items_is}
 use Rattle.std.specs.Vec.{with_items}
-use Rattle.ba_journal.specs.Blocks.{AtHand, IsOf}
+use Rattle.ba_journal.specs.inside.Blocks.{AtHand, IsOf}
 use Rattle.ba_journal.proofs.Windows.{block_behind}
 use Rattle.ba_journal.proofs.blocks.Blocks.read_on.Goals as goal
 

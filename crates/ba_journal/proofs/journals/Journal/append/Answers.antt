@@ -1,5 +1,6 @@
 use Rattle.std.proofs.Common.{List, true, false, ap, subst, ◌∙◌, IsTrue}
-use Rattle.ba_journal.specs.Calls.{appending, behind_gate, IsFrameOf, IsSettled, StandsWithOrWithout}
+use Rattle.ba_journal.specs.Journals.{appending, behind_gate, IsSettled, StandsWithOrWithout}
+use Rattle.ba_journal.specs.inside.Appending.{IsFrameOf}
 use Rattle.ba_journal.proofs.journals.Journal.append.Goals as goal
 use Rattle.ba_ports.specs.Disk.{InTurn, LeavesOnly}
 use Rattle.ba_ports.specs.declared.requests.Call.{Call}

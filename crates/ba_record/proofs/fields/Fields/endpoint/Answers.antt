@@ -1,5 +1,5 @@
 use Rattle.std.proofs.Common.{◌≡◌, ◌≤◌, ◌-◌, List, [], ℕ, length, drop, arith, subst, sym, ap, ◌∙◌, IfOk}
-use Rattle.ba_record.specs.Endpoints.{is_fit}
+use Rattle.ba_message.specs.Endpoints.{fits_endpoint}
 use Rattle.ba_record.specs.Reading.{IsBytes, read, read_endpoint, tested}
 use Rattle.ba_record.proofs.ExactRecords.{within_front}
 use Rattle.ba_record.proofs.fields.Fields.endpoint.Goals as goal
@@ -10,7 +10,7 @@ found_in : (c : After-len) (skipped : List ℕ)
     → (length c.any_endpoint.new.self.rest.now ≤ length c.new-within.result.rest.now)
     × ((length c.new-within.result.rest.now ≤ length c.args.self.now.rest.now)
     × (skipped ≡ drop (length c.new-within.result.rest.now - length c.any_endpoint.new.self.rest.now) c.args.self.now.rest.now
-    → read_endpoint c.args.self.now.rest.now ≡ tested is_fit c.args.self.now.rest.now c.in-Ok.epr skipped))
+    → read_endpoint c.args.self.now.rest.now ≡ tested fits_endpoint c.args.self.now.rest.now c.in-Ok.epr skipped))
 found_in c skipped =
     within_front c.args.self.now.rest.now c.new-within.result.rest.now c.any_endpoint.new.self.rest.now skipped c.in-Ok.epr
     (c.new-within.ensures ∙ c.most_of-front.ensures.front)

@@ -1,5 +1,0 @@
-use Rattle.ba_journal.proofs.Meanings.{each_read}
-use Rattle.ba_journal.proofs.one_meaning.every_file_is_read.Goals as goal
-
-pub returns : goal.returns
-returns c = each_read

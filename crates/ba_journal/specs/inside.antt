@@ -1,0 +1,4 @@
+pub mod Appending
+pub mod Blocks
+pub mod Looks
+pub mod Syncing

@@ -1,0 +1,4 @@
+pub mod DiskValue
+pub mod OutState
+pub mod TextState
+pub mod inside

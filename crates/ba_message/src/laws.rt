@@ -1,0 +1,13 @@
+//! What holds of the tests that the definitions name, as laws for those who cite them.
+ghost use Rattle.std.specs.Prelude.{◌≡◌, ◌↔◌, ℕ, IsTrue, List};
+ghost use Rattle.ba_message.specs.Addresses.{IsDialable};
+ghost use Rattle.ba_message.specs.Dialing.{is_dialable};
+ghost use Rattle.ba_message.specs.Endpoints.{Fits, fits_endpoint, same_epr};
+ghost use Rattle.ba_message.specs.declared.endpoints.Epr.{Epr};
+
+/// Each test of an endpoint reference or an address says the same as the fact that it stands for.
+pub fn tests_of_endpoints_are_exact()
+    ensures equal { (a b : Epr) → IsTrue (same_epr a b) ↔ (a ≡ b) }
+    ensures dialable { (address : List ℕ) → IsTrue (is_dialable address) ↔ IsDialable address }
+    ensures fitting { (e : Epr) → IsTrue (fits_endpoint e) ↔ Fits e }
+{}

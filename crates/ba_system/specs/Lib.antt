@@ -1,0 +1,2 @@
+pub mod ReadSourceState
+pub mod WriteSinkState

@@ -1,8 +1,0 @@
--- What is noted so far and the parts that are left lead to the same row as all parts.
-use Rattle.std.proofs.Common.{◌≡◌, drop, map}
-use Rattle.ba_tree.specs.Trees.{joined}
-use Rattle.ba_tree.specs.SpaceRows.{all_noted, spaces_within}
-use Rattle.ba_tree.proofs.+spaces.Given as goal
-
-abbrev pub invariant-spaces::note_content-loop-part : goal.invariant-spaces::note_content-loop-part
-invariant-spaces::note_content-loop-part l = all_noted l.most l.fn.spaces (joined (map spaces_within l.content)) ≡ all_noted l.most l.noted (joined (map spaces_within (drop l.part-index l.content)))

@@ -1,0 +1,4 @@
+pub mod Grammar
+pub mod GrammarTexts
+pub mod GrammarWords
+pub mod Places

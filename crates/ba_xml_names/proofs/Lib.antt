@@ -1,0 +1,4 @@
+pub mod Nearest
+pub mod OpeningRules
+pub mod Openings
+pub mod Rows

@@ -1,5 +1,0 @@
-use Rattle.std.proofs.Common.{length}
-use Rattle.ba_xml_reader.proofs.spaces.+space_in.Given as goal
-
-abbrev pub decreases-space_in : goal.decreases-space_in
-decreases-space_in l = length l.declarations.now

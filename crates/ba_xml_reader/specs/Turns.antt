@@ -1,7 +1,0 @@
--- What one byte more does to a text.
-use Rattle.ba_xml_reader.specs.declared.faults.Reason.{Reason}
-use Rattle.ba_xml_reader.specs.declared.machine.Scan.{Scan}
-
-pub data Turn : Type 0 where
-  Refused : Reason → Turn
-  On : Scan → Turn

@@ -1,0 +1,6 @@
+pub mod Content
+pub mod Readings
+pub mod Spans
+pub mod States
+pub mod Tags
+pub mod Turns
