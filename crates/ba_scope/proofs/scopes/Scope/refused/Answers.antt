@@ -1,0 +1,10 @@
+use Rattle.std.proofs.Common.{IsTrue, subst, sym}
+use Rattle.ba_scope.specs.Fits.{ScopeFits}
+use Rattle.ba_scope.specs.Scope.{ScopeState, is_registering}
+use Rattle.ba_scope.proofs.Calls.{refused_fits}
+use Rattle.ba_scope.proofs.scopes.Scope.refused.Goals as goal
+
+pub invariant_of-self : goal.invariant_of-self
+invariant_of-self c =
+    let registering = subst (λ (s : ScopeState). IsTrue (is_registering s.up)) (sym c.self.view_is) c.requires in
+    subst (λ (s : ScopeState). ScopeFits s) (sym c.refused.ensures) (refused_fits c.self.inside.fields registering c.self.invariant)
