@@ -1,0 +1,4 @@
+pub mod ElementLaws
+pub mod FitAnswer
+pub mod WrittenEndpoints
+pub mod WrittenShapes

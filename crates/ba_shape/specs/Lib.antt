@@ -1,0 +1,4 @@
+pub mod Elements
+pub mod Endpoints
+pub mod Forms
+pub mod Shapes

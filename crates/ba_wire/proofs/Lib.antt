@@ -1,0 +1,3 @@
+pub mod Answered
+pub mod NoMemory
+pub mod Numerals
