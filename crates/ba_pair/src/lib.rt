@@ -7,7 +7,6 @@ mod lines;
 mod pairs;
 mod plays;
 mod sides;
-mod tables;
 
 pub use events::{PairEvent, StepFault};
 pub use lines::Line;

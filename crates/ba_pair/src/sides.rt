@@ -8,7 +8,6 @@ ghost use Rattle.ba_pair.specs.PairState.{is_for_part, message_at};
 
 use crate::events::{PairEvent, StepFault};
 use crate::lines::Line;
-use crate::tables;
 use ba_core::{Act, CRow, CState, Code, Memory, Notice, PRow, PState, Protocol, Side, Verdict};
 use std::alloc::Global;
 use std::marker::Model;
@@ -83,7 +82,7 @@ impl Sides {
         requires part { IsTrue (is_part_state self.old.protocol self.old.part) }
         ensures acted { (self.new, result) ≡ acted_effect self.old (acted_state self.old.protocol self.old.part act) }
     {
-        match tables::p_act(self.protocol, self.part, act) {
+        match ba_tables::p_act(self.protocol, self.part, act) {
             None => refused(WRONG_STATE),
             Some(next) => {
                 self.part = next;
@@ -114,7 +113,7 @@ impl Sides {
         ensures spoken { OnErr result (IsTrue (is_some (end_tick self.old.end).1)) }
         ensures unchanged { OnErr result (self.new ≡ self.old) }
     {
-        let (next, said) = tables::c_tick(self.protocol, self.end);
+        let (next, said) = ba_tables::c_tick(self.protocol, self.end);
         self.say(said)?;
         self.end = next;
         Ok(self.seen())
@@ -127,7 +126,7 @@ impl Sides {
         ensures spoken { OnErr result (IsTrue (is_some (part_says self.old.part))) }
         ensures unchanged { OnErr result (self.new ≡ self.old) }
     {
-        self.say(tables::p_says(self.protocol, self.part))?;
+        self.say(ba_tables::p_says(self.protocol, self.part))?;
         Ok(self.seen())
     }
 
@@ -138,7 +137,7 @@ impl Sides {
         if self.verdict.is_some() {
             return refused(ALREADY_DECIDED);
         }
-        match tables::c_choose(self.protocol, self.end, v) {
+        match ba_tables::c_choose(self.protocol, self.end, v) {
             None => refused(NOT_READY),
             Some(next) => {
                 self.end = next;
@@ -155,7 +154,7 @@ impl Sides {
         if self.verdict.is_some() {
             return refused(ALREADY_DECIDED);
         }
-        match tables::c_complete(self.protocol, self.end) {
+        match ba_tables::c_complete(self.protocol, self.end) {
             None => refused(WRONG_STATE),
             Some(next) => {
                 self.end = next;
@@ -173,9 +172,9 @@ impl Sides {
         ensures received { (self.new, result) ≡ received_effect self.old n }
     {
         if is_for_part(n) {
-            self.receive_at_part(tables::p_receive(self.protocol, self.part, n))
+            self.receive_at_part(ba_tables::p_receive(self.protocol, self.part, n))
         } else {
-            self.receive_at_end(tables::c_receive(self.protocol, self.end, n))
+            self.receive_at_end(ba_tables::c_receive(self.protocol, self.end, n))
         }
     }
 
@@ -209,7 +208,7 @@ impl Sides {
     {
         match (next, self.verdict) {
             (CState::Completed, Some(v)) => {
-                tables::c_choose(self.protocol, next, v).unwrap_or(next)
+                ba_tables::c_choose(self.protocol, next, v).unwrap_or(next)
             }
             _ => next,
         }
