@@ -1,4 +1,5 @@
 pub mod DiskValue
 pub mod OutState
+pub mod ScriptLinkState
 pub mod TextState
 pub mod inside

@@ -1,10 +1,13 @@
-//! A reader, a writer and a file are used once through their traits, with a failure in the middle.
+//! A reader, a writer, a file, a connection and a clock are used once through their traits, with a failure in
+//! the middle.
 
-use crate::{FileDisk, ReadSource, WriteSink};
-use ba_ports::{Disk, Failed, Sink, Source};
+use crate::{FileDisk, ReadSource, SystemClock, TcpLink, WriteSink};
+use ba_ports::{Clock, Disk, Failed, Link, Sink, Source};
 use std::fs::OpenOptions;
 use std::io::{ErrorKind, Read, Write};
+use std::net::{TcpListener, TcpStream};
 use std::test::Fail;
+use std::time::Duration;
 use std::{fs, io};
 
 const PATH: &str = "ba_system_file_disk_test";
@@ -125,5 +128,48 @@ fn uses_a_file(rt: HostRuntime) -> Result<(), Fail> {
     assert_eq!(rt; past_the_end, Err(Failed));
     assert_eq!(rt; disk.faults(), 1);
     assert_eq!(rt; text?.as_slice(), b"hellp ".as_slice());
+    Ok(())
+}
+
+/// What a link answers that is written once, then read until it fails, and how often it has failed then.
+fn talk<K: Link>(
+    link: &mut K,
+    room: &mut [u8],
+) -> (Result<usize, Failed>, Result<usize, Failed>, u64) {
+    let written = link.write(b"hello");
+    let _ = link.read(room);
+    let answer = link.read(room);
+    (written, answer, link.faults())
+}
+
+#[test]
+fn talks_over_tcp(rt: HostRuntime) -> Result<(), Fail> {
+    let listener = TcpListener::bind(&rt, "127.0.0.1:0")?;
+    let stream = TcpStream::connect(&rt, listener.local_addr()?)?;
+    let (mut peer, _) = listener.accept()?;
+    peer.write_all(b"hi")?;
+    assert!(rt; TcpLink::of(peer.try_clone()?, Duration::ZERO).is_err());
+    let mut link = TcpLink::of(stream, Duration::from_millis(50))?;
+    let mut room = *b"---";
+    assert_eq!(rt; talk(&mut link, &mut room), (Ok(5), Err(Failed), 1));
+    assert_eq!(rt; room, *b"hi-");
+    let mut heard = *b"-----";
+    peer.read_exact(&mut heard)?;
+    assert_eq!(rt; heard, *b"hello");
+    Ok(())
+}
+
+/// The moments before and after a pause.
+fn pause<C: Clock>(clock: &C, milliseconds: u64) -> (u64, u64) {
+    let before = clock.now();
+    clock.pause(milliseconds);
+    (before, clock.now())
+}
+
+#[test]
+fn pauses(rt: HostRuntime) -> Result<(), Fail> {
+    let (before, after) = pause(&SystemClock::of(rt.clone()?), 20);
+    assert!(rt; before > 1_700_000_000_000);
+    assert!(rt; after >= 20 && after - 20 >= before);
     Ok(())
 }
