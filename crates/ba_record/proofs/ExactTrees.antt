@@ -133,7 +133,7 @@ module _ {f : List ℕ → Reading Tree} {R : Tree → Type 0} (exact : IsExact 
   pub exact_element : IsExact (read_element f) tree_coding (IsElement R)
   exact_element = record { sound = element_sound; complete = element_complete }
 
--- a tree of fewer levels than that, whose parts are in their ranges
+-- a tree of at most so many levels, whose parts are in their ranges
 abbrev pub IsTree : ℕ → Tree → Type 0
 IsTree zero t = ⊥
 IsTree (suc levels) t = IsElement (IsTree levels) t

@@ -1,4 +1,5 @@
 pub mod Bases
+pub mod Enough
 pub mod Exact
 pub mod ExactRecords
 pub mod ExactTrees
@@ -8,4 +9,6 @@ pub mod Lengths
 pub mod LongBytes
 pub mod Onward
 pub mod Parts
+pub mod Shallow
+pub mod SkipLemmas
 pub mod Trees

@@ -1,5 +1,5 @@
 -- Steps of a reading: what a fault says of a reading, it says of what goes on from there; many values, one by one.
-use Rattle.std.proofs.Common.{◌≡◌, ℕ, zero, suc, ◌+◌, ◌-◌, ◌<◌, List, [], ◌∷◌, ◌++◌, ap, refl, sym, append_assoc, append-nil, arith, length, take}
+use Rattle.std.proofs.Common.{◌≡◌, ◌∙◌, subst, ℕ, zero, suc, ◌+◌, ◌-◌, ◌<◌, List, [], ◌∷◌, ◌++◌, ap, refl, sym, append_assoc, append-nil, arith, length, take}
 use Rattle.std.proofs.lemmas.List.{take_all}
 use Rattle.ba_record.specs.declared.fields.FieldFault.{FieldFault}
 use Rattle.ba_record.specs.declared.fields.FieldFault.TheVariants as fault
@@ -10,6 +10,21 @@ pub explained_onward : {A B : Type 0} (reading : Reading A) (next : A → List �
 explained_onward reading next from fault.Memory e = tt
 explained_onward reading next from fault.Bad e = ap (λ r. onward r next) e
 explained_onward reading next from fault.Short e = ap (λ r. onward r next) e
+
+-- what a fault says where it is known
+pub was_bad : {A : Type 0} (reading : Reading A) (from : List ℕ) (why : FieldFault) → why ≡ fault.Bad → Explains reading from why
+    → reading ≡ bad from
+was_bad reading from why is e = subst (λ (w : FieldFault). Explains reading from w) is e
+
+pub was_short : {A : Type 0} (reading : Reading A) (from : List ℕ) (why : FieldFault) → why ≡ fault.Short → Explains reading from why
+    → reading ≡ short
+was_short reading from why is e = subst (λ (w : FieldFault). Explains reading from w) is e
+
+-- a reading that is bad, at bytes that are these
+pub bad_at : {A : Type 0} (reading : Reading A) (field from : List ℕ) (why : FieldFault) → reading ≡ bad field → why ≡ fault.Bad
+    → from ≡ field → Explains reading from why
+bad_at reading field from why e is same = subst (λ (w : FieldFault). Explains reading from w) (sym is)
+    (e ∙ ap (λ (xs : List ℕ). bad xs) (sym same))
 
 -- a reading of many values, behind those that were read before
 abbrev pub behind : {A : Type 0} → List A → Reading (List A) → Reading (List A)
@@ -54,7 +69,8 @@ behind_nothing (read more after) = refl
 behind_nothing (bad from) = refl
 behind_nothing short = refl
 
-pub many_begin : {A : Type 0} (value : List ℕ → Reading A) (n : ℕ) (bytes : List ℕ) → behind [] (read_many value (n - 0) bytes) ≡ read_many value n bytes
+pub many_begin : {A : Type 0} (value : List ℕ → Reading A) (n : ℕ) (bytes : List ℕ)
+    → behind [] (read_many value (n - 0) bytes) ≡ read_many value n bytes
 many_begin value n bytes = let all : n - 0 ≡ n = omega arith in rw all (behind_nothing (read_many value n bytes))
 
 -- the first bytes of few are all of them

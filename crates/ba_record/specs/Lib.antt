@@ -1,4 +1,5 @@
 pub mod Coding
 pub mod Endpoints
+pub mod inside
 pub mod Reading
 pub mod Rooms

@@ -173,7 +173,7 @@ read_element tree bytes =
     onward (read_contents tree more) (λ content after.
     read (record { name = name; attributes = attributes; content = content }) after)))
 
--- a tree of fewer levels than that; one that these bytes hold has fewer levels than they are
+-- a tree of at most so many levels; one that these bytes hold has fewer levels than they are
 unfoldable pub read_tree : ℕ → List ℕ → Reading Tree
 read_tree zero bytes = short
 read_tree (suc levels) bytes = read_element (read_tree levels) bytes

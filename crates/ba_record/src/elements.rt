@@ -1,21 +1,24 @@
 //! Trees and endpoints, read field after field.
 ghost use Rattle.std.specs.Prelude.{◌≡◌, take, IfOk, IfErr};
 ghost use Rattle.ba_message.specs.Endpoints.{fits_endpoint};
-ghost use Rattle.ba_record.specs.Reading.{onward, read_byte, read_many};
 ghost use Rattle.ba_record.specs.Reading.{read, Explains, read_name, read_attribute, read_attributes, read_content, read_contents, read_tree};
-ghost use Rattle.ba_record.specs.Reading.{IsBytes, read_any_endpoint, read_endpoint, read_upward, read_option, of_front, short, tested};
+ghost use Rattle.ba_record.specs.Reading.{IsBytes, read_endpoint, read_upward, read_option, short, tested};
+ghost use Rattle.ba_record.specs.inside.Skips.{read_parameters, read_shallow_endpoint};
 
 use crate::endpoints::endpoint_fits;
 use crate::fields::{FieldFault, Fields, octets};
 use ba_core::{List, Octets, Protocol};
-use ba_message::{Epr, MOST_ENDPOINT_BYTES};
+use ba_message::{Epr, MOST_ENDPOINT_BYTES, MOST_PARAMETER_LEVELS};
 use ba_tree::{Attribute, Content, Name, Namespace, Tree};
 
 const MOST_BYTES: usize = MOST_ENDPOINT_BYTES as usize;
 
+const MOST_LEVELS: usize = MOST_PARAMETER_LEVELS as usize;
+
 impl<'a> Fields<'a> {
+    /// An expanded name.
     #[tactic(auto, using(crate::proofs::Onward::explained_onward))]
-    fn name(&mut self) -> Result<Name, FieldFault>
+    pub fn name(&mut self) -> Result<Name, FieldFault>
         ensures ok { IfOk result (λ name. read_name self.old.rest.now ≡ read name self.new.rest.now) }
         ensures fault { IfErr result (Explains (read_name self.old.rest.now) self.new.rest.now) }
     {
@@ -37,8 +40,9 @@ impl<'a> Fields<'a> {
         Ok(Attribute { name, value })
     }
 
+    /// A count of one byte, and so many attributes.
     #[tactic(auto, using(crate::proofs::Onward::explained_onward, crate::proofs::Onward::many_goes_on, crate::proofs::Onward::many_stops, crate::proofs::Onward::many_ends, crate::proofs::Onward::many_begin))]
-    fn attributes(&mut self) -> Result<List<Attribute>, FieldFault>
+    pub fn attributes(&mut self) -> Result<List<Attribute>, FieldFault>
         ensures ok { IfOk result (λ attributes. read_attributes self.old.rest.now ≡ read attributes self.new.rest.now) }
         ensures fault { IfErr result (Explains (read_attributes self.old.rest.now) self.new.rest.now) }
     {
@@ -53,7 +57,7 @@ impl<'a> Fields<'a> {
         Ok(attributes)
     }
 
-    // A tree of fewer levels than that.
+    // A tree of at most so many levels.
     #[cycle(trees)]
     #[tactic(auto, using(crate::proofs::Onward::explained_onward, crate::proofs::Onward::tree_below, crate::proofs::Onward::no_levels))]
     fn tree(&mut self, levels: usize) -> Result<Tree, FieldFault>
@@ -104,15 +108,16 @@ impl<'a> Fields<'a> {
         }
     }
 
+    // Trees of no more levels than those of an endpoint that fits.
     #[tactic(auto, using(crate::proofs::Onward::explained_onward, crate::proofs::Onward::many_goes_on, crate::proofs::Onward::many_stops, crate::proofs::Onward::many_ends, crate::proofs::Onward::many_begin))]
     fn parameters(&mut self) -> Result<List<Tree>, FieldFault>
-        ensures ok { IfOk result (λ parameters. onward (read_byte self.old.rest.now) (read_many (read_tree MOST_ENDPOINT_BYTES)) ≡ read parameters self.new.rest.now) }
-        ensures fault { IfErr result (Explains (onward (read_byte self.old.rest.now) (read_many (read_tree MOST_ENDPOINT_BYTES))) self.new.rest.now) }
+        ensures ok { IfOk result (λ parameters. read_parameters MOST_PARAMETER_LEVELS self.old.rest.now ≡ read parameters self.new.rest.now) }
+        ensures fault { IfErr result (Explains (read_parameters MOST_PARAMETER_LEVELS self.old.rest.now) self.new.rest.now) }
     {
         let count = self.byte()?;
         let mut parameters = List::new(self.alloc);
         'parameters: for done in 0..count {
-            let parameter = self.tree(MOST_BYTES)?;
+            let parameter = self.tree(MOST_LEVELS)?;
             if parameters.push(parameter).is_err() {
                 return Err(FieldFault::Memory);
             }
@@ -120,11 +125,11 @@ impl<'a> Fields<'a> {
         Ok(parameters)
     }
 
-    // An endpoint, whether or not it fits.
+    // An endpoint of no more levels than one that fits, whether or not it does.
     #[tactic(auto, using(crate::proofs::Onward::explained_onward))]
-    fn any_endpoint(&mut self) -> Result<Epr, FieldFault>
-        ensures ok { IfOk result (λ epr. read_any_endpoint self.old.rest.now ≡ read epr self.new.rest.now) }
-        ensures fault { IfErr result (Explains (read_any_endpoint self.old.rest.now) self.new.rest.now) }
+    fn shallow_endpoint(&mut self) -> Result<Epr, FieldFault>
+        ensures ok { IfOk result (λ epr. read_shallow_endpoint self.old.rest.now ≡ read epr self.new.rest.now) }
+        ensures fault { IfErr result (Explains (read_shallow_endpoint self.old.rest.now) self.new.rest.now) }
     {
         let address = self.string()?;
         let parameters = self.parameters()?;
@@ -135,7 +140,8 @@ impl<'a> Fields<'a> {
     }
 
     /// An endpoint that fits. It is bad as a whole, whatever is wrong in it; it is short only where the bytes end
-    /// before it does and before the most bytes that it may have.
+    /// before it does and before the most bytes that it may have. However deep it is nested, only as many levels
+    /// are read as fit.
     pub fn endpoint(&mut self) -> Result<Epr, FieldFault>
         ensures ok { IfOk result (λ epr. read_endpoint self.old.rest.now ≡ read epr self.new.rest.now) }
         ensures fault { IfErr result (Explains (read_endpoint self.old.rest.now) self.new.rest.now) }
@@ -143,14 +149,14 @@ impl<'a> Fields<'a> {
         let field = self.rest;
         let front = most_of(field);
         let mut within = Fields::new(self.alloc, front);
-        match within.any_endpoint() {
+        match within.shallow_endpoint() {
             Ok(epr) => {
                 self.skip(front.len() - within.len());
                 self.fitting(epr, field)
             }
             Err(FieldFault::Memory) => Err(FieldFault::Memory),
             Err(FieldFault::Bad) => Err(self.back_to(field)),
-            Err(FieldFault::Short) => Err(self.ended_in(field)),
+            Err(FieldFault::Short) => Err(self.unended(field)),
         }
     }
 
@@ -165,14 +171,23 @@ impl<'a> Fields<'a> {
         Err(self.back_to(field))
     }
 
-    // The endpoint that began where these bytes do didn't end within the most bytes that it may have.
-    fn ended_in(&mut self, field: &'a [u8]) -> FieldFault
-        ensures { Explains (of_front field.now short) self.new.rest.now result }
+    // The endpoint that began where these bytes do didn't end within as many levels and bytes as it may have: it is
+    // bad, unless the bytes end inside it.
+    fn unended(&mut self, field: &'a [u8]) -> FieldFault
+        requires { read_shallow_endpoint (take MOST_ENDPOINT_BYTES field.now) ≡ short }
+        ensures { Explains (read_endpoint field.now) self.new.rest.now result }
     {
-        if field.len() < MOST_BYTES {
-            return FieldFault::Short;
+        if field.len() >= MOST_BYTES {
+            return self.back_to(field);
         }
-        self.back_to(field)
+        let mut within = Fields::new(self.alloc, field);
+        match within.skip_endpoint() {
+            Err(FieldFault::Memory) => FieldFault::Memory,
+            Err(FieldFault::Short) => FieldFault::Short,
+            Err(FieldFault::Bad) => self.back_to(field),
+            // It is nested too deep.
+            Ok(()) => self.back_to(field),
+        }
     }
 
     #[tactic(auto, using(crate::proofs::Onward::explained_onward))]

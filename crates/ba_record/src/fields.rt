@@ -110,9 +110,9 @@ impl<'a> Fields<'a> {
         Ok(u64::from_le_bytes(*digits))
     }
 
-    // A length of two bytes, and so many bytes.
+    /// A length of two bytes, and so many bytes.
     #[tactic(auto, using(crate::proofs::Onward::explained_onward))]
-    fn text(&mut self) -> Result<&'a [u8], FieldFault>
+    pub fn text(&mut self) -> Result<&'a [u8], FieldFault>
         ensures ok { IfOk result (λ bytes. read_string self.old.rest.now ≡ read bytes.now self.new.rest.now) }
         ensures fault { IfErr result (Explains (read_string self.old.rest.now) self.new.rest.now) }
     {

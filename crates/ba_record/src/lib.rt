@@ -9,6 +9,7 @@ mod reader;
 mod records;
 mod rooms;
 mod sizes;
+mod skips;
 mod writer;
 
 pub use laws::{long_bytes_are_refused_by_their_front, records_are_read_back};

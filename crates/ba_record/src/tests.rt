@@ -311,3 +311,54 @@ fn endpoints_end_in_time(rt: HostRuntime) -> Result<(), Fail> {
     );
     Ok(())
 }
+
+// The innermost of some nested elements, k without attributes and content.
+const LEAF: &[u8] = b"\x00\x00\x01\x00k\x00\x00\x00";
+
+// A part was enrolled whose coordinator has one parameter: so many elements k, each but the last with the next as its
+// only piece, and the last as these bytes have it.
+fn nested(alloc: Global, levels: usize, last: &[u8]) -> Result<Octets, Memory> {
+    let mut bytes = joined(alloc, b"\x05", SEVEN, b"\x01\x00p\x01")?;
+    for _ in 1..levels {
+        bytes.append(b"\x00\x00\x01\x00k\x00\x01\x00\x01")?;
+    }
+    bytes.append(last)?;
+    Ok(bytes)
+}
+
+#[test]
+fn deep_endpoints_are_bad_unless_cut(rt: HostRuntime) -> Result<(), Fail> {
+    let a = rt.alloc();
+    let fits = nested(a, 16, LEAF)?;
+    assert_eq!(rt; fault_of(a, fits.as_slice()), None);
+    for levels in [17, 300] {
+        let deep = nested(a, levels, LEAF)?;
+        assert_eq!(rt;
+            fault_of(a, deep.as_slice()),
+            Some(RecordFault::BadField(9))
+        );
+        // Cut by a byte, and with a piece that is neither a text nor an element.
+        let cut = nested(a, levels, b"\x00\x00\x01\x00k\x00\x00")?;
+        assert_eq!(rt;
+            fault_of(a, cut.as_slice()),
+            Some(RecordFault::Short(cut.len() as u64))
+        );
+        let wrong = nested(a, levels, b"\x00\x00\x01\x00k\x00\x01\x00\x02")?;
+        assert_eq!(rt;
+            fault_of(a, wrong.as_slice()),
+            Some(RecordFault::BadField(9))
+        );
+    }
+    // 4,095 and 4,096 bytes of an endpoint that goes on.
+    let last = nested(a, 455, b"\x00\x00\x01\x00k")?;
+    assert_eq!(rt;
+        fault_of(a, last.as_slice()),
+        Some(RecordFault::Short(4104))
+    );
+    let past = nested(a, 455, b"\x00\x00\x01\x00k\x00")?;
+    assert_eq!(rt;
+        fault_of(a, past.as_slice()),
+        Some(RecordFault::BadField(9))
+    );
+    Ok(())
+}
