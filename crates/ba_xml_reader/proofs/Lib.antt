@@ -44,3 +44,5 @@ pub mod SoundSections
 pub mod SoundSteps
 pub mod SoundTags
 pub mod SoundText
+pub mod WholeEscapes
+pub mod WholePairs

@@ -45,7 +45,7 @@ abbrev all_under : (ℕ → Bool) → ℕ → Bool
 all_under p zero = true
 all_under p (suc n) = p n && all_under p n
 
-both : (x y : Bool) → (x && y) ≡ true → (x ≡ true) × (y ≡ true)
+pub both : (x y : Bool) → (x && y) ≡ true → (x ≡ true) × (y ≡ true)
 both true y e = (refl, e)
 both false y e = absurd (true≢false (sym e))
 
@@ -64,7 +64,7 @@ under p (suc n) b a h = by (λ k. under p n b (both (p n) (all_under p n) a).1 k
     by ih false e = ih (below (eqb-false b n e))
 
 -- a byte of this kind is put on as it stands
-abbrev calm : Class → ℕ → Bool
+abbrev pub calm : Class → ℕ → Bool
 calm class.Less b = false
 calm class.Greater b = false
 calm class.Ampersand b = false
@@ -76,7 +76,7 @@ calm class.DoubleQuote b = false
 calm class.Space b = b == 32
 calm k b = true
 
-abbrev is_single : Decoding → Bool
+abbrev pub is_single : Decoding → Bool
 is_single (decoding.At Between) = true
 is_single d = false
 
@@ -104,10 +104,10 @@ given false y e h = absurd (true≢false (sym h))
 plain_fits : (b : ℕ) → is_plain b ≡ true → fits b ≡ true
 plain_fits b h = given (is_plain b) (fits b) (under either_plain 128 b plain_table (ltb-true b 128 (both _ _ (both _ _ h).0).1)) h
 
-letter_fits : (b : ℕ) → is_letter b ≡ true → (is_single (lead b) && not (b == 13)) ≡ true
+pub letter_fits : (b : ℕ) → is_letter b ≡ true → (is_single (lead b) && not (b == 13)) ≡ true
 letter_fits b h = given (is_letter b) (is_single (lead b) && not (b == 13)) (under either_letter 128 b letter_table (ltb-true b 128 (both _ _ h).0)) h
 
-no : (x : Bool) → not x ≡ true → x ≡ false
+pub no : (x : Bool) → not x ≡ true → x ≡ false
 no true e = absurd (true≢false (sym e))
 no false e = refl
 
@@ -121,7 +121,7 @@ single d e = cc
 abbrev pub calm_scan : State → Scan
 calm_scan s = record { state = s; octet = Between; returned = false }
 
-turn_on : (outer out : List Level) (here in' : Level) (m n : Mode) (b : ℕ) → is_single (lead b) ≡ true → (b == 13) ≡ false
+pub turn_on : (outer out : List Level) (here in' : Level) (m n : Mode) (b : ℕ) → is_single (lead b) ≡ true → (b == 13) ≡ false
     → state_after (state.At outer here m) b ≡ state.At out in' n
     → turned (calm_scan (state.At outer here m)) b ≡ turn.On (calm_scan (state.At out in' n))
 unfolding octet_after
@@ -156,14 +156,14 @@ value_step outer here tag a quote b other c =
     ∙ value_kind outer here tag a quote b (class_of b) c
 
 -- what a plain byte is not
-record IsCalm (b : ℕ) : Type 0 where
-  one : is_single (lead b) ≡ true
-  no_return : (b == 13) ≡ false
-  no_double : (b == 34) ≡ false
-  no_apostrophe : (b == 39) ≡ false
-  kind : calm (class_of b) b ≡ true
+pub record IsCalm (b : ℕ) : Type 0 where
+  pub one : is_single (lead b) ≡ true
+  pub no_return : (b == 13) ≡ false
+  pub no_double : (b == 34) ≡ false
+  pub no_apostrophe : (b == 39) ≡ false
+  pub kind : calm (class_of b) b ≡ true
 
-plain_calm : (b : ℕ) → is_plain b ≡ true → IsCalm b
+pub plain_calm : (b : ℕ) → is_plain b ≡ true → IsCalm b
 plain_calm b h =
     let all = both (is_single (lead b)) _ (plain_fits b h) in
     let more = both (not (b == 13)) _ all.1 in
@@ -173,7 +173,7 @@ plain_calm b h =
 
 -- ---- a run of them
 
-once : (scan next : Scan) (taken b : ℕ) → turned scan b ≡ turn.On next → taken < 262144
+pub once : (scan next : Scan) (taken b : ℕ) → turned scan b ≡ turn.On next → taken < 262144
     → reading_after (Going scan taken) b ≡ Going next (taken + 1)
 unfolding reading_after
 once scan next taken b e h =
@@ -219,7 +219,7 @@ text_runs parent outer here bs taken a h =
         turn_on (parent ∷ outer) (parent ∷ outer) (record here { text = t }) (record here { text = t ++ b ∷ [] }) (mode.Inside Zero) (mode.Inside Zero) b is.one is.no_return
         (text_step parent outer (record here { text = t }) b (class_of b) refl is.kind)
 
-value_runs : (outer : List Level) (here : Level) (tag : Tag) (a : RawAttribute) (quote : ℕ) (bs : List ℕ) (taken : ℕ)
+pub value_runs : (outer : List Level) (here : Level) (tag : Tag) (a : RawAttribute) (quote : ℕ) (bs : List ℕ) (taken : ℕ)
     → ((b : ℕ) → IsCalm b → (b == quote) ≡ false) → list_all is_plain bs ≡ true
     → taken + length bs ≤ 262144 → Runs outer here (mode.Value tag a quote) bs taken
 value_runs outer here tag a quote bs taken apart all h =
@@ -234,7 +234,7 @@ value_runs outer here tag a quote bs taken apart all h =
         (mode.Value tag (record { name = a.name; value = t ++ b ∷ [] }) quote) b is.one is.no_return
         (value_step outer here tag (record { name = a.name; value = t }) quote b (apart b is) is.kind)
 
-name_runs : (outer : List Level) (here : Level) (m : RawName → Mode) (name : RawName) (bs : List ℕ) (taken : ℕ)
+pub name_runs : (outer : List Level) (here : Level) (m : RawName → Mode) (name : RawName) (bs : List ℕ) (taken : ℕ)
     → ((n : RawName) (b : ℕ) → act_by outer here (m n) b class.Letter ≡ state.At outer here (m (with_letters n (b ∷ []))))
     → list_all is_letter bs ≡ true → taken + length bs ≤ 262144
     → run (Going (calm_scan (state.At outer here (m name))) taken) bs ≡ Going (calm_scan (state.At outer here (m (with_letters name bs)))) (taken + length bs)

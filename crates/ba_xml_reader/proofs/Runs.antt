@@ -32,7 +32,7 @@ run_append r [] more = ap (λ x. run x more) (sym (run_none r))
 run_append r (b ∷ front) more =
     run_more r b (front ++ more) ∙ run_append (reading_after r b) front more ∙ ap (λ x. run x more) (sym (run_more r b front))
 
-from_there : (at : ℕ) (bs : List ℕ) → take (length bs - at) (drop at bs) ≡ drop at bs
+pub from_there : (at : ℕ) (bs : List ℕ) → take (length bs - at) (drop at bs) ≡ drop at bs
 from_there at bs = take_all (length bs - at) (drop at bs) within
   where
     within : length (drop at bs) ≤ length bs - at

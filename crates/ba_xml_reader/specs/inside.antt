@@ -1,4 +1,6 @@
 pub mod Content
+pub mod Escapes
+pub mod Pairs
 pub mod Readings
 pub mod Spans
 pub mod States

@@ -2,8 +2,10 @@
 #![tactic(auto)]
 
 mod content;
+mod escapes;
 mod laws;
 mod machine;
+mod pairs;
 mod spans;
 mod states;
 mod tags;

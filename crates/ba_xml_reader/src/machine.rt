@@ -1,13 +1,13 @@
 //! One byte of a text after another.
 ghost use Rattle.std.specs.Prelude.{◌≡◌, ◌+◌, Some, IfOk, OnOk};
 ghost use Rattle.ba_xml_reader.specs.Machine.{reading_at, start, act_by, state_after, unless_returned, line_end, turned, turned_as, refusal_in, counted, ended, reason_at, finished, root_of, child_of};
-ghost use Rattle.ba_xml_reader.specs.inside.States.{state_at};
+ghost use Rattle.ba_xml_reader.specs.inside.States.{stands};
 
 use crate::content::{
     begin, bracketed, comment, declaring, exclaimed, first, first_open, hyphened, inside, mark_one,
     mark_two, open, reference, section,
 };
-use crate::states::{Mode, Next, State};
+use crate::states::{Mode, State};
 use crate::tags::{
     attribute_name, end_name, end_space, equals, in_tag, quote, slashed, tag_name, value,
     value_reference,
@@ -149,56 +149,55 @@ fn advance(alloc: Global, state: &mut State, b: u8) -> Result<(), Memory>
 {
     match state {
         State::Refused(_) => Ok(()),
-        State::At(outer, here, mode) => {
-            // It only keeps the place until it is known what the byte leads to.
-            let before = mem::replace(mode, Mode::Begin);
-            match act(alloc, outer, here, before, b, classify(b))? {
-                Next::Refused(reason) => *state = State::Refused(reason),
-                Next::On(next) => *mode = next,
+        State::At(outer, here, mode) => match act(alloc, outer, here, mode, b, classify(b))? {
+            None => Ok(()),
+            Some(reason) => {
+                *state = State::Refused(reason);
+                Ok(())
             }
-            Ok(())
-        }
+        },
     }
 }
 
-// What a byte of this class does behind what of a piece is read.
+// What a byte of this class does behind what of a piece is read. The answer is why no text goes on so, if none does.
 fn act(
     alloc: Global,
     outer: &mut Stack<Held<Level>>,
     here: &mut Held<Level>,
-    mode: Mode,
+    mode: &mut Mode,
     b: u8,
     class: Class,
-) -> Result<Next, Memory>
-    ensures { IfOk result (λ next. state_at outer.new here.new next ≡ act_by outer.old here.old mode b class) }
+) -> Result<Option<Reason>, Memory>
+    ensures { IfOk result (λ refusal. stands outer.new here.new mode.new refusal ≡ act_by outer.old here.old mode.old b class) }
 {
-    match mode {
-        Mode::Begin => Ok(begin(b, class)),
-        Mode::MarkOne => Ok(mark_one(b)),
-        Mode::MarkTwo => Ok(mark_two(b)),
-        Mode::First => Ok(first(class)),
-        Mode::FirstOpen => first_open(alloc, outer, here, b, class),
-        Mode::Declaring(heading) => Ok(declaring(heading, b, class)),
-        Mode::Inside(seen) => inside(outer, here, seen, b, class),
-        Mode::Open => open(alloc, outer, here, b, class),
-        Mode::Exclaimed => Ok(exclaimed(outer, here, class)),
-        Mode::Hyphened => Ok(hyphened(class)),
-        Mode::Comment(seen) => Ok(comment(seen, class)),
-        Mode::Bracketed(count) => Ok(bracketed(alloc, count, b)),
-        Mode::Section(body, seen) => section(here, body, seen, b, class),
-        Mode::Reference(partial) => reference(here, partial, b),
-        Mode::TagName(name) => tag_name(alloc, outer, here, name, b, class),
-        Mode::InTag(tag, spaced) => in_tag(alloc, outer, here, tag, spaced, b, class),
-        Mode::AttributeName(tag, name) => attribute_name(tag, name, b, class),
-        Mode::Equals(tag, name) => Ok(equals(tag, name, class)),
-        Mode::Quote(tag, name) => quote(alloc, tag, name, b, class),
-        Mode::Value(tag, attribute, quote) => value(tag, attribute, quote, b, class),
+    // A mode without parts keeps the place until it is known what the byte leads to.
+    match mem::replace(mode, Mode::Begin) {
+        Mode::Begin => Ok(begin(mode, b, class)),
+        Mode::MarkOne => Ok(mark_one(mode, b)),
+        Mode::MarkTwo => Ok(mark_two(mode, b)),
+        Mode::First => Ok(first(mode, class)),
+        Mode::FirstOpen => first_open(alloc, outer, here, mode, b, class),
+        Mode::Declaring(heading) => Ok(declaring(mode, heading, b, class)),
+        Mode::Inside(seen) => inside(outer, here, mode, seen, b, class),
+        Mode::Open => open(alloc, outer, here, mode, b, class),
+        Mode::Exclaimed => Ok(exclaimed(outer, here, mode, class)),
+        Mode::Hyphened => Ok(hyphened(mode, class)),
+        Mode::Comment(seen) => Ok(comment(mode, seen, class)),
+        Mode::Bracketed(count) => Ok(bracketed(alloc, mode, count, b)),
+        Mode::Section(body, seen) => section(here, mode, body, seen, b, class),
+        Mode::Reference(partial) => reference(here, mode, partial, b),
+        Mode::TagName(name) => tag_name(alloc, outer, here, mode, name, b, class),
+        Mode::InTag(tag, spaced) => in_tag(alloc, outer, here, mode, tag, spaced, b, class),
+        Mode::AttributeName(tag, name) => attribute_name(mode, tag, name, b, class),
+        Mode::Equals(tag, name) => Ok(equals(mode, tag, name, class)),
+        Mode::Quote(tag, name) => quote(alloc, mode, tag, name, b, class),
+        Mode::Value(tag, attribute, quote) => value(mode, tag, attribute, quote, b, class),
         Mode::ValueReference(tag, attribute, quote, partial) => {
-            value_reference(tag, attribute, quote, partial, b)
+            value_reference(mode, tag, attribute, quote, partial, b)
         }
-        Mode::Slashed(opening) => slashed(alloc, here, opening, class),
-        Mode::EndName(rest) => Ok(end_name(rest, b)),
-        Mode::EndSpace => end_space(alloc, outer, here, class),
+        Mode::Slashed(opening) => slashed(alloc, here, mode, opening, class),
+        Mode::EndName(rest) => Ok(end_name(mode, rest, b)),
+        Mode::EndSpace => end_space(alloc, outer, here, mode, class),
     }
 }
 

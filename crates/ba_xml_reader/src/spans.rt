@@ -1,5 +1,5 @@
 //! Runs of bytes that are taken at once: those that are put on as they stand, and those of an end tag's name.
-ghost use Rattle.std.specs.Prelude.{◌≡◌, ◌≤◌, ◌<◌, ◌+◌, true, length, take, List as Items, IfOk, OnOk};
+ghost use Rattle.std.specs.Prelude.{◌≡◌, ◌≤◌, ◌<◌, ◌+◌, ◌-◌, true, length, take, List as Items, IfOk, OnOk};
 ghost use Rattle.std.specs.List.{list_all};
 ghost use Rattle.ba_xml_reader.specs.Machine.{run, reading_at};
 ghost use Rattle.ba_xml_reader.specs.inside.Readings.{Going};
@@ -7,6 +7,7 @@ ghost use Rattle.ba_xml_words.specs.inside.Remaining.{is_front};
 ghost use Rattle.ba_xml_reader.specs.inside.Spans.{is_plain, is_letter, is_put, is_run, is_run_at, is_run_in, puts_in, puts_inside, with_span, with_span_at, with_span_in};
 
 use crate::machine::{MOST_BYTES, Refusal, Scan};
+use crate::pairs::Pair;
 use crate::states::{Mode, Seen, State};
 use ba_core::Memory;
 use ba_xml_names::{Held, Level, Stack};
@@ -29,9 +30,9 @@ pub struct Taken {
     pub refusal: Option<Refusal>,
 }
 
-// So many of the first bytes, all of which are put on, up to a number. No clause asks for the longest run: a shorter
-// one is only slower.
-fn span_length(puts: Puts, bytes: &[u8], most: u64) -> usize
+/// So many of the first bytes, all of which are put on, up to a number. No clause asks for the longest run: a shorter
+/// one is only slower.
+pub fn span_length(puts: Puts, bytes: &[u8], most: u64) -> usize
     ensures put { list_all (is_put puts) (take result bytes.now) ≡ true }
     ensures within { result ≤ length bytes.now }
     ensures most { result ≤ most }
@@ -93,16 +94,96 @@ impl Scan {
         ensures some { IfOk result (λ taking. 0 < taking.count) }
         ensures within { IfOk result (λ taking. taking.count ≤ length bytes.now) }
     {
-        let count = self.run_length(bytes, MOST_BYTES.saturating_sub(taken));
+        let most = MOST_BYTES.saturating_sub(taken);
+        let count = self.run_length(bytes, most);
         if count == 0 {
-            let refusal = self.step(alloc, taken, bytes[0])?;
-            return Ok(Taken { count: 1, refusal });
+            return self.read_piece(alloc, taken, bytes, most);
         }
         self.put_span(&bytes[..count])?;
         Ok(Taken {
             count,
             refusal: None,
         })
+    }
+
+    // Takes an attribute or a reference with which the bytes begin, or else the first of them.
+    fn read_piece(
+        &mut self,
+        alloc: Global,
+        taken: u64,
+        bytes: &[u8],
+        most: u64,
+    ) -> Result<Taken, Memory>
+        requires some { 0 < length bytes.now }
+        requires most { most ≤ MOST_BYTES - taken }
+        ensures read { IfOk result (λ taking. run (Going self.old taken) (take taking.count bytes.now) ≡ reading_at self.new (taken + taking.count) taking.refusal) }
+        ensures some { IfOk result (λ taking. 0 < taking.count) }
+        ensures within { IfOk result (λ taking. taking.count ≤ length bytes.now) }
+    {
+        let count = self.take_piece(alloc, taken, bytes, most)?;
+        if count == 0 {
+            let refusal = self.step(alloc, taken, bytes[0])?;
+            return Ok(Taken { count: 1, refusal });
+        }
+        Ok(Taken {
+            count,
+            refusal: None,
+        })
+    }
+
+    // Takes an attribute or a reference with which the bytes begin, if they do, and answers how many bytes it has.
+    fn take_piece(
+        &mut self,
+        alloc: Global,
+        taken: u64,
+        bytes: &[u8],
+        most: u64,
+    ) -> Result<usize, Memory>
+        requires some { 0 < length bytes.now }
+        requires most { most ≤ MOST_BYTES - taken }
+        ensures read { IfOk result (λ count. 0 < count → run (Going self.old taken) (take count bytes.now) ≡ Going self.new (taken + count)) }
+        ensures none { IfOk result (λ count. count ≡ 0 → self.new ≡ self.old) }
+        ensures within { IfOk result (λ count. count ≤ length bytes.now) }
+    {
+        if bytes[0] == b'&' {
+            return self.take_escape(taken, bytes, most);
+        }
+        if is_letter(bytes[0]) {
+            return self.take_pair(alloc, taken, bytes, most);
+        }
+        Ok(0)
+    }
+
+    fn take_pair(
+        &mut self,
+        alloc: Global,
+        taken: u64,
+        bytes: &[u8],
+        most: u64,
+    ) -> Result<usize, Memory>
+        requires { most ≤ MOST_BYTES - taken }
+        ensures read { IfOk result (λ count. 0 < count → run (Going self.old taken) (take count bytes.now) ≡ Going self.new (taken + count)) }
+        ensures none { IfOk result (λ count. count ≡ 0 → self.new ≡ self.old) }
+        ensures within { IfOk result (λ count. count ≤ length bytes.now) }
+    {
+        let Some(Pair { name, value, .. }) = self.pair(bytes, most) else {
+            return Ok(0);
+        };
+        self.put_pair(alloc, &bytes[..name], &bytes[name + 2..][..value])?;
+        Ok(name + 2 + value + 1)
+    }
+
+    fn take_escape(&mut self, taken: u64, bytes: &[u8], most: u64) -> Result<usize, Memory>
+        requires { most ≤ MOST_BYTES - taken }
+        ensures read { IfOk result (λ count. 0 < count → run (Going self.old taken) (take count bytes.now) ≡ Going self.new (taken + count)) }
+        ensures none { IfOk result (λ count. count ≡ 0 → self.new ≡ self.old) }
+        ensures within { IfOk result (λ count. count ≤ length bytes.now) }
+    {
+        let Some(escape) = self.escape(bytes, most) else {
+            return Ok(0);
+        };
+        self.put_meant(escape.byte())?;
+        Ok(escape.as_slice().len())
     }
 
     // Puts these bytes on.

@@ -1,4 +1,5 @@
 //! Where a reading stands between two bytes.
+ghost use Rattle.ba_xml_reader.specs.inside.States.{LeadsTo};
 
 use ba_core::{List, Octets};
 use ba_xml_names::{Held, Level, Opening, Stack, Tag};
@@ -61,15 +62,6 @@ pub enum Mode {
     EndSpace,
 }
 
-/// What a byte leads to.
-#[derive(Debug, Drop)]
-pub enum Next {
-    /// No text begins so.
-    Refused(Reason),
-    /// So much of a piece is read.
-    On(Mode),
-}
-
 /// Where a reading stands between two bytes.
 #[derive(Debug, Drop)]
 pub enum State {
@@ -77,4 +69,13 @@ pub enum State {
     Refused(Reason),
     /// The open elements, the innermost of them apart, and what of a piece is read.
     At(Stack<Held<Level>>, Held<Level>, Mode),
+}
+
+/// So much of a piece is read now, and a text may go on.
+#[inline(always)]
+pub fn go(mode: &mut Mode, next: Mode) -> Option<Reason>
+    ensures { LeadsTo mode.new result (λ outer here. State.At outer here next) }
+{
+    *mode = next;
+    None
 }
