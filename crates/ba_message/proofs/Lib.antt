@@ -1,2 +1,4 @@
 pub mod Dialed
 pub mod FitTests
+pub mod OwnEndpoints
+pub mod PlainTexts

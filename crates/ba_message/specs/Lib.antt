@@ -1,3 +1,4 @@
 pub mod Addresses
 pub mod Dialing
 pub mod Endpoints
+pub mod Letters

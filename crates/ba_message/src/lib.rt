@@ -11,8 +11,8 @@ pub use endpoints::{
     Epr, MOST_ENDPOINT_BYTES, MOST_PARAMETER_ATTRIBUTES, MOST_PARAMETER_LEVELS,
     MOST_PARAMETER_NAMESPACES, MOST_PARAMETERS, PARAMETER_MARK, is_parameter_mark,
 };
-pub use laws::tests_of_endpoints_are_exact;
-pub use messages::{Context, Letter, Message};
+pub use laws::{own_endpoints_fit, tests_of_endpoints_are_exact};
+pub use messages::{Context, Letter, MOST_IDENTIFIER_BYTES, Message};
 
 #[cfg(test)]
 mod tests;

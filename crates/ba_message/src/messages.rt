@@ -5,6 +5,9 @@ use crate::endpoints::Epr;
 use ba_core::{Code, Id, Kind, Memory, Notice, Octets, Protocol};
 use std::alloc::Global;
 
+/// How many bytes the identifier of a context or a message has at most where an envelope surely has room for it.
+pub const MOST_IDENTIFIER_BYTES: usize = 1024;
+
 /// A coordination context (WS-Coordination 1.2, section 2).
 #[derive(Debug, Drop)]
 pub struct Context {

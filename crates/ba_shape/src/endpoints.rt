@@ -170,7 +170,7 @@ pub fn epr_of(alloc: Global, tree: &Tree) -> Result<Epr, EprFault>
 {
     match endpoint_misfit(alloc, tree, 0) {
         Err(Memory) => Err(EprFault::Memory),
-        Ok(Some(misfit)) => Err(refused(misfit)),
+        Ok(Some(misfit)) => Err(fault_of(misfit)),
         Ok(None) => match endpoint_of(alloc, tree) {
             Err(Memory) => Err(EprFault::Memory),
             Ok(epr) => Ok(epr),
@@ -178,7 +178,8 @@ pub fn epr_of(alloc: Global, tree: &Tree) -> Result<Epr, EprFault>
     }
 }
 
-fn refused(misfit: Misfit) -> EprFault
+/// The refusal of an element that is out of shape.
+pub fn fault_of(misfit: Misfit) -> EprFault
     ensures { result ≡ fault_of misfit }
 {
     match misfit.why {

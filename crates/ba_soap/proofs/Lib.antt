@@ -1,1 +1,4 @@
 pub mod BlockLaws
+pub mod MarkLemmas
+pub mod WrittenBlocks
+pub mod WrittenEnvelopes

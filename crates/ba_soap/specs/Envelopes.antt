@@ -179,8 +179,8 @@ envelope_said blocks mine body = record {
   body = body;
 }
 
-abbrev pub envelope_of : Dialect → List Tree → Tree → Envelope
-envelope_of d blocks body = envelope_said blocks (filter (is_looked_at d) blocks) body
+abbrev pub envelope_by_blocks : Dialect → List Tree → Tree → Envelope
+envelope_by_blocks d blocks body = envelope_said blocks (filter (is_looked_at d) blocks) body
 
 -- ---- the answer
 
@@ -212,7 +212,7 @@ answer_unless_refused (Some f) e = Err f
 
 -- the body holds one element
 abbrev pub answer_by_body : Dialect → List Tree → List Tree → Result Envelope SoapFault
-answer_by_body d blocks (body ∷ []) = answer_unless_refused (blocks_refusal d blocks) (envelope_of d blocks body)
+answer_by_body d blocks (body ∷ []) = answer_unless_refused (blocks_refusal d blocks) (envelope_by_blocks d blocks body)
 answer_by_body d blocks elements = Err fault.Shape
 
 abbrev pub is_part : Dialect → List ℕ → Tree → Bool

@@ -4,7 +4,7 @@ ghost use Rattle.std.specs.List.{list_any, position};
 ghost use Rattle.ba_tree.specs.declared.trees.Tree.{Tree};
 ghost use Rattle.ba_shape.specs.Elements.{children, in_u32, text_of};
 ghost use Rattle.ba_shape.specs.Endpoints.{child_at, text_in};
-ghost use Rattle.ba_soap.specs.Envelopes.{IsSoapAnswer, block_fault, answer_by_body, answer_by_parts, blocks_refusal, envelope_answer, envelope_of, first_invalid_header, has_bad_flag, header_text, is_header, is_looked_at, is_not_understood, is_part, action_fault, option_text, text_or_none, envelope_said, refusal_by, is_reply_relation, reply_of, soap11, answer_unless_refused};
+ghost use Rattle.ba_soap.specs.Envelopes.{IsSoapAnswer, block_fault, answer_by_body, answer_by_parts, blocks_refusal, envelope_answer, envelope_by_blocks, first_invalid_header, has_bad_flag, header_text, is_header, is_looked_at, is_not_understood, is_part, action_fault, option_text, text_or_none, envelope_said, refusal_by, is_reply_relation, reply_of, soap11, answer_unless_refused};
 ghost use Rattle.ba_soap.specs.declared.headers.Header.TheVariants as header;
 
 use crate::headers::{
@@ -133,7 +133,7 @@ fn read_blocks<D: Dialect>(
     blocks: &[&Tree],
     body: &Tree,
 ) -> Result<Envelope, SoapFault>
-    ensures { IsSoapAnswer (answer_unless_refused (blocks_refusal (D.sheet dialect.now) (map (λ b. b.now) blocks.now)) (envelope_of (D.sheet dialect.now) (map (λ b. b.now) blocks.now) body.now)) result }
+    ensures { IsSoapAnswer (answer_unless_refused (blocks_refusal (D.sheet dialect.now) (map (λ b. b.now) blocks.now)) (envelope_by_blocks (D.sheet dialect.now) (map (λ b. b.now) blocks.now) body.now)) result }
 {
     let mine = looked_at(alloc, dialect, blocks)?;
     match refusal(alloc, dialect, blocks, mine.as_slice())? {

@@ -1,9 +1,11 @@
 //! Envelopes of SOAP with the headers of WS-Addressing 1.0.
 #![tactic(auto)]
 
+mod elements;
 mod envelopes;
 mod headers;
 
 pub use ba_shape::{EprFault, epr_of, tree_of_epr};
+pub use elements::{write_as, write_envelope};
 pub use envelopes::{read_as, read_envelope};
 pub use headers::{Dialect, Envelope, Header, ReplyTo, Soap11, SoapFault};

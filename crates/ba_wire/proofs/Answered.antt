@@ -11,6 +11,7 @@ ok_is_meant expected (Err f) is = tt
 
 refused : {X : Type 0} (expected : Result X WireFault) (f : WireFault) → IsWireAnswer expected (Err f) → f ≢ fault.Memory → expected ≡ Err f
 refused expected fault.Memory is other = absurd (other refl)
+refused expected (fault.Xml reason place) is other = sym is
 refused expected (fault.Soap f) is other = sym is
 refused expected fault.OnlyAnonymous is other = sym is
 refused expected (fault.EprLimit n) is other = sym is

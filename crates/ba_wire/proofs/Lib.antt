@@ -1,3 +1,9 @@
 pub mod Answered
 pub mod NoMemory
 pub mod Numerals
+pub mod TextAnswers
+pub mod WrittenBodies
+pub mod WrittenContexts
+pub mod WrittenMessages
+pub mod WrittenNumbers
+pub mod WrittenParts

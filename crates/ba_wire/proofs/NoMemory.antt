@@ -1,4 +1,4 @@
--- No tree is refused for want of memory: for the law of that name.
+-- No tree is refused for want of memory, or as no text of XML: for the law of the first, and for `decode`.
 use Rattle.std.proofs.Common.{◌≢◌, ℕ, Bool, true, false, ◌&&◌, List, [], ◌∷◌, ◌++◌, Option, Some, None, Result, Ok, Err, if◌then◌else◌, subst, bytes_eq}
 use Rattle.std.specs.Prelude.{codes, filter}
 use Rattle.std.specs.List.{list_any, position}
@@ -13,7 +13,7 @@ use Rattle.ba_soap.specs.declared.headers.Header.TheVariants as header
 use Rattle.ba_soap.specs.declared.headers.ReplyTo.{ReplyTo}
 use Rattle.ba_soap.specs.declared.headers.SoapFault.{SoapFault}
 use Rattle.ba_soap.specs.declared.headers.SoapFault.TheVariants as soap
-use Rattle.ba_soap.specs.Envelopes.{Dialect, action_fault, answer_by_body, answer_by_parts, answer_unless_refused, block_fault, blocks_refusal, envelope_answer, envelope_of, first_fault, first_invalid_header, first_refusal, has_bad_flag, header_of, header_text, invalid_header, is_called, is_invalid, is_looked_at, is_not_understood, is_part, refusal_by}
+use Rattle.ba_soap.specs.Envelopes.{Dialect, action_fault, answer_by_body, answer_by_parts, answer_unless_refused, block_fault, blocks_refusal, envelope_answer, envelope_by_blocks, first_fault, first_invalid_header, first_refusal, has_bad_flag, header_of, header_text, invalid_header, is_called, is_invalid, is_looked_at, is_not_understood, is_part, refusal_by}
 use Rattle.ba_wire.specs.declared.bodies.Body.{Body}
 use Rattle.ba_wire.specs.declared.bodies.Body.TheVariants as body
 use Rattle.ba_wire.specs.declared.faults.WireFault.{WireFault}
@@ -90,7 +90,7 @@ unless_read (Some f) e p = p
 body_read : (d : Dialect) (blocks elements : List Tree) → IsRead (answer_by_body d blocks elements)
 body_read d blocks [] = tt
 body_read d blocks (b ∷ []) =
-    unless_read (blocks_refusal d blocks) (envelope_of d blocks b) (refusal_spared d blocks (filter (is_looked_at d) blocks))
+    unless_read (blocks_refusal d blocks) (envelope_by_blocks d blocks b) (refusal_spared d blocks (filter (is_looked_at d) blocks))
 body_read d blocks (b ∷ c ∷ more) = tt
 
 parts_read : (d : Dialect) (parts : List Tree) → IsRead (answer_by_parts d parts)
@@ -113,11 +113,13 @@ envelope_read d t =
 
 -- ---- the answers of messages
 
-abbrev IsOtherWire : WireFault → Type 0
+abbrev pub IsOtherWire : WireFault → Type 0
 IsOtherWire (fault.Soap f) = IsOther f
+IsOtherWire fault.Memory = ⊥
+IsOtherWire (fault.Xml reason place) = ⊥
 IsOtherWire f = Unit {0}
 
-abbrev IsAnswered : {X : Type 0} → Result X WireFault → Type 0
+abbrev pub IsAnswered : {X : Type 0} → Result X WireFault → Type 0
 IsAnswered (Ok x) = Unit {0}
 IsAnswered (Err f) = IsOtherWire f
 
@@ -174,5 +176,8 @@ by_envelope_answered : (d : Dialect) (r : Result Envelope SoapFault) → IsRead 
 by_envelope_answered d (Ok e) p = body_answered (which_body d e) e (which_answered d e)
 by_envelope_answered d (Err f) p = p
 
+pub tree_answered : (d : Dialect) (t : Tree) → IsAnswered (tree_answer d t)
+tree_answered d t = by_envelope_answered d (envelope_answer d t) (envelope_read d t)
+
 pub never_memory : (d : Dialect) (t : Tree) → tree_answer d t ≢ Err (fault.Soap soap.Memory)
-never_memory d t is = subst IsAnswered is (by_envelope_answered d (envelope_answer d t) (envelope_read d t))
+never_memory d t is = subst IsAnswered is (tree_answered d t)

@@ -11,15 +11,20 @@ use Rattle.ba_soap.specs.declared.headers.SoapFault.TheVariants as soap
 use Rattle.ba_shape.specs.declared.shapes.Misfit.{Misfit}
 use Rattle.ba_shape.specs.declared.shapes.Why.{Why}
 use Rattle.ba_shape.specs.declared.shapes.Why.TheVariants.{Mismatch, Limit}
-use Rattle.ba_soap.specs.Envelopes.{Dialect, envelope_answer, is_called}
+use Rattle.ba_soap.specs.Envelopes.{Dialect, envelope_answer, is_called, soap11}
 use Rattle.ba_wire.specs.declared.bodies.Body.{Body}
 use Rattle.ba_wire.specs.declared.bodies.Body.TheVariants as body
 use Rattle.ba_wire.specs.declared.faults.WireFault.{WireFault}
 use Rattle.ba_wire.specs.declared.faults.WireFault.TheVariants as fault
 use Rattle.ba_wire.specs.declared.routes.Route.{Route}
-use Rattle.ba_wire.specs.declared.decoding.Decoded.{Decoded}
+use Rattle.ba_wire.specs.declared.meaning.Decoded.{Decoded}
 use Rattle.ba_wire.specs.Actions.{body_name, body_of, body_space, fault_actions}
 use Rattle.ba_wire.specs.Bodies.{body_look, message_of}
+use Rattle.ba_xml_grammar.specs.GrammarTexts.{IsXmlText}
+use Rattle.ba_xml_reader.specs.Machine.{xml_answer}
+use Rattle.ba_xml_reader.specs.Refusals.{IsRefusedAs}
+use Rattle.ba_xml_words.specs.declared.faults.XmlFault.{XmlFault}
+use Rattle.ba_xml_words.specs.declared.faults.XmlFault.TheVariants as xml
 
 abbrev pub route_of_envelope : Envelope → Route
 route_of_envelope e = record { to = e.to; message_id = e.message_id; relates_to = e.relates_to; parameters = e.parameters }
@@ -76,6 +81,22 @@ answer_by_envelope d (Ok e) = answer_of_body (which_body d e) e
 
 abbrev pub tree_answer : Dialect → Tree → Result Decoded WireFault
 tree_answer d t = answer_by_envelope d (envelope_answer d t)
+
+-- the answer of bytes: that of their tree, or why they are no text of one
+abbrev pub answer_by_tree : Result Tree XmlFault → Result Decoded WireFault
+answer_by_tree (Ok t) = tree_answer soap11 t
+answer_by_tree (Err xml.Memory) = Err fault.Memory
+answer_by_tree (Err (xml.At reason place)) = Err (fault.Xml reason place)
+
+abbrev pub text_answer : List ℕ → Result Decoded WireFault
+text_answer bytes = answer_by_tree (xml_answer bytes)
+
+-- Why bytes are no message: they are no text of XML, or the envelope that they are a text of is refused. Want of memory
+-- says nothing of them.
+abbrev pub IsNoMessage : List ℕ → WireFault → Type 0
+IsNoMessage bytes fault.Memory = ⊥
+IsNoMessage bytes (fault.Xml reason place) = IsRefusedAs bytes reason place
+IsNoMessage bytes f = (t : Tree) × IsXmlText bytes t × (tree_answer soap11 t ≡ Err f)
 
 -- an envelope that means a message
 abbrev pub Means : Dialect → Tree → Decoded → Type 0

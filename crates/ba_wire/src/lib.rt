@@ -2,16 +2,21 @@
 #![tactic(auto)]
 
 mod bodies;
-mod decoding;
+mod contexts;
+mod elements;
+mod envelopes;
 mod faults;
 mod forms;
 mod laws;
+mod meaning;
 mod routes;
 #[cfg(test)]
 mod tests;
 mod values;
 
-pub use decoding::{Decoded, decode_tree};
-pub use faults::WireFault;
-pub use laws::memory_refuses_no_tree;
-pub use routes::Route;
+pub use contexts::{context_of, tree_of_context};
+pub use envelopes::{encode, envelope_tree, is_known, message_name};
+pub use faults::{WireFault, code_for};
+pub use laws::{memory_refuses_no_tree, messages_are_read_back};
+pub use meaning::{Decoded, decode, decode_tree};
+pub use routes::{Route, route_of};

@@ -1,10 +1,14 @@
-//! Reading messages.
+//! What envelopes and their texts mean: reading.
 ghost use Rattle.std.specs.Prelude.{◌≡◌, ◌≢◌, ℕ, IfOk, IfErr, Ok, Err, Some, None, find, map};
 ghost use Rattle.std.specs.List.{list_any};
 ghost use Rattle.ba_soap.specs.Envelopes.{soap11, is_called};
 ghost use Rattle.ba_wire.specs.Actions.{body_name, body_of, body_space, bodies, fault_actions};
 ghost use Rattle.ba_wire.specs.Bodies.{body_look, message_of};
-ghost use Rattle.ba_wire.specs.Meaning.{IsWireAnswer, Means, asks_for_reply, answer_of_body, answer_by_envelope, answer_by_reply, answer_by_shape, is_elsewhere, body_named, wire_fault_at, reply_refusal, reply_rule, route_of_envelope, tree_answer, unknown_action_fault, which_body};
+ghost use Rattle.ba_tree.specs.declared.trees.Tree.{Tree};
+ghost use Rattle.ba_wire.specs.declared.meaning.Decoded.{Decoded};
+ghost use Rattle.ba_xml_grammar.specs.GrammarTexts.{IsXmlText};
+ghost use Rattle.ba_xml_reader.specs.Machine.{xml_answer};
+ghost use Rattle.ba_wire.specs.Meaning.{IsNoMessage, answer_by_tree, text_answer, IsWireAnswer, Means, asks_for_reply, answer_of_body, answer_by_envelope, answer_by_reply, answer_by_shape, is_elsewhere, body_named, wire_fault_at, reply_refusal, reply_rule, route_of_envelope, tree_answer, unknown_action_fault, which_body};
 
 use crate::bodies::Body;
 use crate::faults::WireFault;
@@ -14,6 +18,7 @@ use ba_message::Message;
 use ba_shape::{Misfit, Why};
 use ba_soap::{Envelope, Header, ReplyTo, SoapFault, read_envelope};
 use ba_tree::{SOAP_SPACE, Tree};
+use ba_xml::{XmlFault, read};
 use std::alloc::Global;
 
 /// A route and a message.
@@ -23,16 +28,36 @@ pub struct Decoded {
     pub message: Message,
 }
 
+/// Reads the message that a text of an envelope means.
+pub fn decode(alloc: Global, bytes: &[u8]) -> Result<Decoded, WireFault>
+    ensures answer { IsWireAnswer (text_answer bytes.now) result }
+    ensures means { IfOk result (λ decoded. (tree : Tree) × IsXmlText bytes.now tree × Means soap11 tree decoded) }
+    ensures only { (tree : Tree) (decoded : Decoded) → IsXmlText bytes.now tree → Means soap11 tree decoded → IsWireAnswer (Ok decoded) result }
+    ensures refusal { IfErr result (λ fault. fault ≢ WireFault.Memory → IsNoMessage bytes.now fault) }
+{
+    answer_of_text(alloc, bytes)
+}
+
+fn answer_of_text(alloc: Global, bytes: &[u8]) -> Result<Decoded, WireFault>
+    ensures { IsWireAnswer (text_answer bytes.now) result }
+{
+    match read(alloc, bytes) {
+        Err(XmlFault::Memory) => Err(WireFault::Memory),
+        Err(XmlFault::At { reason, place }) => Err(WireFault::Xml { reason, place }),
+        Ok(tree) => answer(alloc, &tree),
+    }
+}
+
 /// Reads the message that an envelope means.
 pub fn decode_tree(alloc: Global, tree: &Tree) -> Result<Decoded, WireFault>
     ensures answer { IsWireAnswer (tree_answer soap11 tree.now) result }
     ensures means { IfOk result (λ decoded. Means soap11 tree.now decoded) }
     ensures refusal { IfErr result (λ fault. fault ≢ WireFault.Memory → tree_answer soap11 tree.now ≡ Err fault) }
 {
-    decode(alloc, tree)
+    answer(alloc, tree)
 }
 
-fn decode(alloc: Global, tree: &Tree) -> Result<Decoded, WireFault>
+fn answer(alloc: Global, tree: &Tree) -> Result<Decoded, WireFault>
     ensures { IsWireAnswer (tree_answer soap11 tree.now) result }
 {
     match read_envelope(alloc, tree) {
