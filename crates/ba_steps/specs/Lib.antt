@@ -1,0 +1,10 @@
+pub mod Addresses
+pub mod Endpoints
+pub mod Examples
+pub mod Fits
+pub mod Lawful
+pub mod Letters
+pub mod Node
+pub mod Shown
+pub mod Steps
+pub mod Ticks

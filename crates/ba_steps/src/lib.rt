@@ -1,0 +1,19 @@
+//! The steps of a node, said apart from any code: what an input and a tick make of it, which record it keeps, and which
+//! lists of records are lawful. This crate has the types of inputs and answers, and laws; the node itself stands above.
+#![tactic(auto)]
+
+mod answers;
+mod inputs;
+mod laws;
+
+pub use answers::{
+    BAD_ADDRESS, CHILD_PART, Done, NO_SUCH_PART, NO_SUCH_SCOPE, Reply, Seen, Ticked, Wake,
+};
+pub use inputs::Input;
+pub use laws::{
+    a_lawful_list_has_one_replay, a_record_tells_its_step, addresses_tell_objects_apart,
+    each_end_its_own_choice, fail_climbs_a_tree, late_register_is_refused,
+    letters_tell_their_senders, one_exits_one_closes, replays_go_on, steps_keep_a_node_fit,
+    steps_keep_endpoints_reachable, steps_without_a_record_change_nothing,
+    what_is_written_is_in_range,
+};
