@@ -1,0 +1,7 @@
+pub mod Links
+pub mod Runs
+pub mod Safety
+pub mod Trees
+pub mod Words
+pub mod World
+pub mod WorldSteps
