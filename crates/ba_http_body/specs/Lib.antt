@@ -1,0 +1,4 @@
+pub mod Counted
+pub mod Remaining
+pub mod SizeLines
+pub mod inside

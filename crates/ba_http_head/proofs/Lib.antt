@@ -1,0 +1,11 @@
+pub mod Digits
+pub mod Empties
+pub mod Ends
+pub mod FieldValues
+pub mod HeadParts
+pub mod LineLemmas
+pub mod LookLemmas
+pub mod Once
+pub mod Openings
+pub mod Printed
+pub mod Steps

@@ -1,0 +1,11 @@
+use Rattle.std.proofs.Common.{arith, length, ◌∙◌, ap, Err}
+use Rattle.ba_http_head.proofs.Ends.{section_many}
+use Rattle.ba_http_head.proofs.asks.ask_trailer.Goals as goal
+
+pub unreachable-requires : goal.unreachable-requires
+unreachable-requires c =
+    let room = c.requires.room in
+    let few = c.requires.few in
+    let over = section_many (length c.args.room.now) c.args.prefix.now
+    (c.parse_headers.ensures.too_many (c.in-Err-TooManyHeaders.is ∙ ap Err c.in-Err-TooManyHeaders.field-0-is)) in
+    omega (arith, room, few, over)

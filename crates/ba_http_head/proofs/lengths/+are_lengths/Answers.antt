@@ -1,0 +1,26 @@
+use Rattle.std.proofs.Common.{◌≡◌, false, get_or, sym, ap, ◌∙◌}
+use Rattle.std.specs.Prelude.{codes}
+use Rattle.std.specs.Str.{str_eq_ignore_ascii_case}
+use Rattle.httparse.specs.declared.spans.HeaderSpan.{HeaderSpan}
+use Rattle.httparse.specs.Spans.{header_bytes}
+use Rattle.ba_http_head.specs.Lengths.{is_length}
+use Rattle.ba_http_head.proofs.FieldValues.{names_is, all_on}
+use Rattle.ba_http_head.proofs.lengths.«+are_lengths».Goals as goal
+use Rattle.ba_http_head.proofs.lengths.«+are_lengths».Goals.{else-named-via-then-named+else-not-is_length, else-named-via-else-named}
+
+pub returns-else-named : goal.returns-else-named
+returns-else-named t c =
+    let none : HeaderSpan = record { name = record { start = 0; end = 0 }; value = record { start = 0; end = 0 } } in
+    let name = codes "content-length" in
+    let named = c.eq_ignore_ascii_case-named.result in
+    let is : str_eq_ignore_ascii_case (header_bytes c.args.prefix.now (get_or c.args.headers.now 0 none)).0 name ≡ named =
+    ap (λ v. str_eq_ignore_ascii_case v name) (sym c.of.ensures)
+    ∙ names_is c.of.result.now name named c.eq_ignore_ascii_case-named.ensures.test in
+    c.are_lengths.ensures ∙ elim c.else-named.branch [
+      | else-named-via-then-named+else-not-is_length w ↦ all_on (header_bytes c.args.prefix.now) name
+          (is_length c.args.first.now) c.args.headers.now none named c.in-len1-up.len_at_least is
+          (λ _. ap (is_length c.args.first.now) (sym w.of-then-named.ensures) ∙ sym w.is_length.ensures ∙ w.if-not-is_length.false)
+      | else-named-via-else-named w ↦ all_on (header_bytes c.args.prefix.now) name
+          (is_length c.args.first.now) c.args.headers.now none named c.in-len1-up.len_at_least is
+          (λ yes. let no : named ≡ false = w.if-named.false in absurd (cc))
+    ]
