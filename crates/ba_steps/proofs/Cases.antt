@@ -1,6 +1,6 @@
 -- What a step of a node may be: what is to be shown of an input's or a tick's step follows from what holds of a step that
 -- changes nothing and of each way in which it changes the node; for each law of steps.
-use Rattle.std.proofs.Common.{◌≡◌, ℕ, Bool, true, false, not, ◌&&◌, ◌||◌, Option, None, Some, refl, if◌then◌else◌}
+use Rattle.std.proofs.Common.{◌≡◌, ◌≢◌, inl, inr, ℕ, Bool, true, false, not, ◌&&◌, ◌||◌, Option, None, Some, refl, sym, if◌then◌else◌}
 use Rattle.ba_core.specs.EndRows.{end_row, chosen_state}
 use Rattle.ba_core.specs.PartRows.{part_row, part_says, acted_state}
 use Rattle.ba_core.specs.declared.codes.Code.{Code}
@@ -28,9 +28,9 @@ use Rattle.ba_record.specs.declared.records.Record.{Record}
 use Rattle.ba_record.specs.declared.records.Record.TheVariants as journal
 use Rattle.ba_scope.proofs.Lists.{by_test, not_true}
 use Rattle.ba_scope.specs.Rules.{ScopeStep, choose, complete, decide, end_after_notice, end_after_row, end_asking, end_owing, enrol_refusal, enrolled_part, expire, finish, leave_act, leave_by, part_asking, part_in_state, part_owing, refused_part, state_at_tick, tick_of_end, tick_of_part, tick_up, with_end_changed, with_up_moved}
-use Rattle.ba_scope.specs.Scope.{ScopeState, end_of, has_no_coordinator}
+use Rattle.ba_scope.specs.Scope.{ScopeState, end_of, has_no_coordinator, is_full, is_registering, is_sealed, takes_no_more}
 use Rattle.ba_scope.specs.declared.answers.EnrolFault.{EnrolFault}
-use Rattle.ba_scope.specs.declared.answers.EnrolFault.TheVariants.{NotYetEnrolled}
+use Rattle.ba_scope.specs.declared.answers.EnrolFault.TheVariants.{NotYetEnrolled, Sealed, Full}
 use Rattle.ba_scope.specs.declared.answers.Said.{Said}
 use Rattle.ba_scope.specs.declared.answers.Said.TheVariants as said
 use Rattle.ba_scope.specs.declared.answers.TheConstants.{NO_SUCH_END, NOT_A_CHILD, WRONG_STATE}
@@ -42,8 +42,8 @@ use Rattle.ba_steps.specs.declared.answers.TheConstants.{BAD_ADDRESS, CHILD_PART
 use Rattle.ba_steps.specs.declared.answers.Wake.{Wake}
 use Rattle.ba_steps.specs.declared.answers.Wake.TheVariants as wake
 use Rattle.ba_steps.specs.Addresses.{coordinator_of}
-use Rattle.ba_steps.specs.Node.{NodeState, EndPlace, PartPlace, lone, upward, counter, end_place, id_at, next_id, part_place, scope_with_id, with_lone, with_new_part, with_part_changed, with_scope}
-use Rattle.ba_steps.specs.Steps.{NodeStep, accepted_step, act_at, again_step, ask_end, ask_part, choice_number, complete_number, create_scope, enrol_unless, enrolled_before, fault_step, if_found, if_placed, is_get_status, is_of_kind, is_registering_state, is_status, new_part, on_act, on_ask, on_choose, on_complete, on_create, on_decide, on_end_asked, on_end_notice, on_end_row, on_enrolled, on_finish, on_join, on_leave, on_lone_row, on_part_asked, on_part_heard, on_place_notice, on_refused_by, on_register, on_up_row, refusal_number, refusal_step, reply_step, rule_step, same_end_state, same_part_state, same_protocol, up_act_step, wake_of_choice, wake_of_end, wake_of_up, written_step}
+use Rattle.ba_steps.specs.Node.{HasPart, NodeState, EndPlace, PartPlace, lone, upward, counter, end_place, id_at, next_id, part_place, scope_with_id, with_lone, with_new_part, with_part_changed, with_scope}
+use Rattle.ba_steps.specs.Steps.{NodeStep, accepted_step, act_at, again_step, ask_end, ask_part, choice_number, complete_number, create_scope, enrol_unless, enrolled_before, fault_step, if_found, if_placed, is_get_status, is_of_kind, is_registering_state, is_status, new_part, on_act, on_ask, on_choose, on_complete, on_create, on_decide, on_end_asked, on_end_notice, on_end_row, on_enrolled, on_finish, on_join, on_leave, on_lone_row, on_part_asked, on_part_heard, on_place_notice, on_refused_by, on_register, on_up_row, register_at, refusal_number, refusal_step, reply_step, rule_step, same_end_state, same_part_state, same_protocol, up_act_step, wake_of_choice, wake_of_end, wake_of_up, written_step}
 use Rattle.ba_steps.specs.Ticks.{TickStep, end_letter, letter_step, part_letter, register_letter, tick_at_end, tick_at_part, tick_at_scope, tick_lone, tick_step, tick_upward, ticked_step}
 use Rattle.ba_steps.proofs.ScopeCases.{neither_right}
 use Rattle.ba_steps.proofs.Places.{EndStands, LoneStands, UpStands, Stands, end_found, place_cases}
@@ -97,24 +97,53 @@ pub record Registers (n : NodeState) (scope : Id) (protocol : Option Protocol) (
   pub new : end_of s.ends participant ≡ None
   pub taken : enrol_refusal s ≡ None
 
-pub register_cases : (P : NodeStep → Type 0) (n : NodeState) (scope : Id) (protocol : Option Protocol) (participant : Epr) → OfReply P n
+-- how a Register is answered that makes no end
+pub data AnsweredOnly (n : NodeState) (scope : Id) (protocol : Option Protocol) (participant : Epr) (r : Reply) : Type 0 where
+  -- the scope enrolled the participant before
+  enrolled_already : (s : ScopeState) (e : End) → scope_with_id n scope ≡ Some s → end_of s.ends participant ≡ Some e
+      → r ≡ reply.Enrolment (coordinator_of n.base e.id) → AnsweredOnly n scope protocol participant r
+  -- it didn't, and takes no more
+  for_good : (s : ScopeState) → scope_with_id n scope ≡ Some s → end_of s.ends participant ≡ None → takes_no_more s ≡ true
+      → r ≡ reply.SoapFault code.CannotRegisterParticipant → AnsweredOnly n scope protocol participant r
+  -- by a fault that doesn't refuse for good
+  for_now : (c : Code) → refusal_number c ≡ None → r ≡ reply.SoapFault c → AnsweredOnly n scope protocol participant r
+  no_protocol : protocol ≡ None → r ≡ reply.SoapFault code.InvalidProtocol → AnsweredOnly n scope protocol participant r
+
+-- a scope that is sealed or full takes no more
+refused_takes_none : (s : ScopeState) (why : EnrolFault) → enrol_refusal s ≡ Some why → why ≢ NotYetEnrolled → takes_no_more s ≡ true
+refused_takes_none s why = by_tests (is_registering s.up) (is_sealed s) (is_full s) why
+  where
+    by_tests : (registering sealed full : Bool) (why : EnrolFault)
+        → (if registering then Some NotYetEnrolled else if sealed then Some Sealed else if full then Some Full else None) ≡ Some why
+        → why ≢ NotYetEnrolled → (sealed || full) ≡ true
+    by_tests true sealed full why is other = let same : NotYetEnrolled ≡ why = cc in absurd (other (sym same))
+    by_tests false true full why is other = refl
+    by_tests false false true why is other = refl
+    by_tests false false false why is other = absurd cc
+
+pub register_answers : (P : NodeStep → Type 0) (n : NodeState) (scope : Id) (protocol : Option Protocol) (participant : Epr)
+    → ((r : Reply) → AnsweredOnly n scope protocol participant r → P (reply_step n r))
     → ((s : ScopeState) (known : Protocol) → Registers n scope protocol participant s known → P (enrol_unless n s known participant None))
     → P (on_register n scope protocol participant)
-register_cases P n scope protocol participant same new =
-    found_cases P (scope_with_id n scope) (fault_step n code.DestinationUnreachable) _
-    (same (reply.SoapFault code.DestinationUnreachable)) (λ s here.
-    found_cases P protocol (fault_step n code.InvalidProtocol) _ (same (reply.SoapFault code.InvalidProtocol)) (λ known protocol_is.
-    by_test P (is_dialable participant.address) _ (fault_step n code.InvalidParameters)
-    (λ dialable. by_end s known here protocol_is dialable (end_of s.ends participant) refl)
-    (λ _. same (reply.SoapFault code.InvalidParameters))))
+register_answers P n scope protocol participant same new =
+    found_cases P (scope_with_id n scope) (fault_step n code.DestinationUnreachable) _ (now code.DestinationUnreachable refl) (λ s here.
+    by_protocol s here protocol refl)
   where
+    now : (c : Code) → refusal_number c ≡ None → P (fault_step n c)
+    now c is = same (reply.SoapFault c) (for_now c is refl)
+
+    good : (s : ScopeState) (why : EnrolFault) → scope_with_id n scope ≡ Some s → end_of s.ends participant ≡ None
+        → enrol_refusal s ≡ Some why → why ≢ NotYetEnrolled → P (fault_step n code.CannotRegisterParticipant)
+    good s why here fresh taken other =
+        same (reply.SoapFault code.CannotRegisterParticipant) (for_good s here fresh (refused_takes_none s why taken other) refl)
+
     by_refusal : (s : ScopeState) (known : Protocol) → scope_with_id n scope ≡ Some s → protocol ≡ Some known
         → is_dialable participant.address ≡ true
         → end_of s.ends participant ≡ None → (o : Option EnrolFault) → enrol_refusal s ≡ o → P (enrol_unless n s known participant o)
     by_refusal s known here protocol_is dialable fresh None taken =
         new s known (record { here = here; protocol_is = protocol_is; dialable = dialable; new = fresh; taken = taken })
-    by_refusal s known here protocol_is dialable fresh (Some NotYetEnrolled) taken = same (reply.SoapFault code.EndpointUnavailable)
-    by_refusal s known here protocol_is dialable fresh (Some why) taken = same (reply.SoapFault code.CannotRegisterParticipant)
+    by_refusal s known here protocol_is dialable fresh (Some NotYetEnrolled) taken = now code.EndpointUnavailable refl
+    by_refusal s known here protocol_is dialable fresh (Some why) taken = good s why here fresh taken (λ h. absurd cc)
 
     by_end : (s : ScopeState) (known : Protocol) → scope_with_id n scope ≡ Some s → protocol ≡ Some known
         → is_dialable participant.address ≡ true
@@ -124,7 +153,21 @@ register_cases P n scope protocol participant same new =
     by_end s known here protocol_is dialable (Some e) is =
         by_test P (same_protocol e.protocol known) (reply_step n (reply.Enrolment (coordinator_of n.base e.id)))
         (fault_step n code.InvalidParameters)
-        (λ _. same (reply.Enrolment (coordinator_of n.base e.id))) (λ _. same (reply.SoapFault code.InvalidParameters))
+        (λ _. same (reply.Enrolment (coordinator_of n.base e.id)) (enrolled_already s e here is refl))
+        (λ _. now code.InvalidParameters refl)
+
+    by_protocol : (s : ScopeState) → scope_with_id n scope ≡ Some s → (o : Option Protocol) → protocol ≡ o
+        → P (if_found o (fault_step n code.InvalidProtocol) (λ known.
+        if is_dialable participant.address then register_at n s known participant else fault_step n code.InvalidParameters))
+    by_protocol s here None is = same (reply.SoapFault code.InvalidProtocol) (no_protocol is refl)
+    by_protocol s here (Some known) is =
+        by_test P (is_dialable participant.address) (register_at n s known participant) (fault_step n code.InvalidParameters)
+        (λ dialable. by_end s known here is dialable (end_of s.ends participant) refl) (λ _. now code.InvalidParameters refl)
+
+pub register_cases : (P : NodeStep → Type 0) (n : NodeState) (scope : Id) (protocol : Option Protocol) (participant : Epr) → OfReply P n
+    → ((s : ScopeState) (known : Protocol) → Registers n scope protocol participant s known → P (enrol_unless n s known participant None))
+    → P (on_register n scope protocol participant)
+register_cases P n scope protocol participant same new = register_answers P n scope protocol participant (λ r _. same r) new
 
 -- ---- Join
 
@@ -359,43 +402,76 @@ up_acts s up = not (up_talks up) && not (same_part_state up.state (state_at_tick
 abbrev pub end_ticks : End → Bool
 end_ticks e = (e.owes || e.asks) || not (same_end_state e.state (tick_of_end e).after.state)
 
-pub tick_cases : (P : TickStep → Type 0) (n : NodeState) (now : ℕ) (id : Id) → OfLetter P n
-    → ((s : ScopeState) → scope_with_id n id ≡ Some s → (expire s now).answer ≡ true
-    → P (ticked_step (with_scope n (expire s now).after) None s.id (wake.Scope s.id)))
-    → ((at : EndPlace) (w : Wake) → scope_with_id n id ≡ None → EndStands n id at → end_ticks at.end ≡ true
+-- the letter of a tick that changes nothing
+pub data SentOnly (n : NodeState) (id : Id) (l : Option Letter) : Type 0 where
+  nothing : l ≡ None → SentOnly n id l
+  of_end : (at : EndPlace) → EndStands n id at → end_ticks at.end ≡ false → l ≡ end_letter at.end (tick_of_end at.end).says
+      → SentOnly n id l
+  -- a participant registers
+  of_registering : (p : Part) → HasPart n p → is_registering_state p.state ≡ true → l ≡ Some (register_letter n p) → SentOnly n id l
+  of_lone : (p : Part) → LoneStands n id p → is_registering_state p.state ≡ false → (p.owes || p.asks) ≡ false
+      → l ≡ part_letter p (part_says p.state) → SentOnly n id l
+  of_up : (s : ScopeState) (p : Part) → UpStands n id s p → is_registering_state p.state ≡ false → (up_talks p || up_acts s p) ≡ false
+      → l ≡ part_letter p (tick_up s).says → SentOnly n id l
+
+-- what holds of a scope that expires, of an end that ticks, of a lone participant that talks, and of an upward part that talks or acts
+abbrev pub OfExpiry : (TickStep → Type 0) → NodeState → ℕ → Id → Type 0
+OfExpiry P n now id =
+    (s : ScopeState) → scope_with_id n id ≡ Some s → (expire s now).answer ≡ true
+    → P (ticked_step (with_scope n (expire s now).after) None s.id (wake.Scope s.id))
+
+abbrev pub OfEndTick : (TickStep → Type 0) → NodeState → Id → Type 0
+OfEndTick P n id =
+    (at : EndPlace) (w : Wake) → scope_with_id n id ≡ None → EndStands n id at → end_ticks at.end ≡ true
     → P (ticked_step (with_scope n (with_end_changed at.end.id (λ it. (tick_of_end it).after) at.scope))
-    (end_letter at.end (tick_of_end at.end).says)
-    at.end.id w))
-    → ((p : Part) → scope_with_id n id ≡ None → end_place n id ≡ None → LoneStands n id p → is_registering_state p.state ≡ false
+    (end_letter at.end (tick_of_end at.end).says) at.end.id w)
+
+abbrev pub OfLoneTick : (TickStep → Type 0) → NodeState → Id → Type 0
+OfLoneTick P n id =
+    (p : Part) → scope_with_id n id ≡ None → end_place n id ≡ None → LoneStands n id p → is_registering_state p.state ≡ false
     → (p.owes || p.asks) ≡ true
-    → P (ticked_step (with_lone n (tick_of_part p).after) (part_letter p (tick_of_part p).says) p.id wake.Nobody))
-    → ((s : ScopeState) (p : Part) (w : Wake) → scope_with_id n id ≡ None → end_place n id ≡ None → UpStands n id s p
+    → P (ticked_step (with_lone n (tick_of_part p).after) (part_letter p (tick_of_part p).says) p.id wake.Nobody)
+
+abbrev pub OfUpTick : (TickStep → Type 0) → NodeState → Id → Type 0
+OfUpTick P n id =
+    (s : ScopeState) (p : Part) (w : Wake) → scope_with_id n id ≡ None → end_place n id ≡ None → UpStands n id s p
     → is_registering_state p.state ≡ false → (up_talks p || up_acts s p) ≡ true
-    → P (ticked_step (with_scope n (tick_up s).after) (part_letter p (tick_up s).says) p.id w))
-    → P (tick_step n now id)
-tick_cases P n now id same scope end alone above = by_scope (scope_with_id n id) refl
+    → P (ticked_step (with_scope n (tick_up s).after) (part_letter p (tick_up s).says) p.id w)
+
+pub tick_letters : (P : TickStep → Type 0) (n : NodeState) (now : ℕ) (id : Id)
+    → ((l : Option Letter) → SentOnly n id l → P (letter_step n l))
+    → OfExpiry P n now id → OfEndTick P n id → OfLoneTick P n id → OfUpTick P n id → P (tick_step n now id)
+tick_letters P n now id same scope end alone above = by_scope (scope_with_id n id) refl
   where
     by_place : scope_with_id n id ≡ None → end_place n id ≡ None → P (tick_at_part n (part_place n id))
     by_place no_scope no_end =
-        place_cases (λ (place : PartPlace). P (tick_at_part n place)) n id (λ _. same None)
-        (λ p stands. by_test P (is_registering_state p.state) (letter_step n (Some (register_letter n p))) (tick_lone n p) (λ _. same _)
+        place_cases (λ (place : PartPlace). P (tick_at_part n place)) n id (λ _. same None (nothing refl))
+        (λ p stands. by_test P (is_registering_state p.state) (letter_step n (Some (register_letter n p))) (tick_lone n p)
+        (λ registers. same _ (of_registering p (inl stands.part) registers refl))
         (λ hears.
         by_test P (p.owes || p.asks) _ (letter_step n (part_letter p (part_says p.state)))
-        (λ talks. alone p no_scope no_end stands hears talks) (λ _. same _)))
+        (λ talks. alone p no_scope no_end stands hears talks) (λ silent. same _ (of_lone p stands hears silent refl))))
         (λ s p stands. by_test P (is_registering_state p.state) (letter_step n (Some (register_letter n p))) (tick_upward n s p)
-        (λ _. same _) (λ hears.
+        (λ registers. same _ (of_registering p (inr (s, stands.scope, stands.up)) registers refl))
+        (λ hears.
         by_test P (up_talks p || up_acts s p) _ (letter_step n (part_letter p (tick_up s).says))
-        (λ moves. above s p _ no_scope no_end stands hears moves) (λ _. same _)))
+        (λ moves. above s p _ no_scope no_end stands hears moves) (λ stays. same _ (of_up s p stands hears stays refl))))
 
     by_end : scope_with_id n id ≡ None → (o : Option EndPlace) → end_place n id ≡ o
         → P (if_found o (tick_at_part n (part_place n id)) (λ at. tick_at_end n at.scope at.end))
     by_end no_scope None none = by_place no_scope none
     by_end no_scope (Some at) found =
+        let stands = end_found n id at found in
         by_test P (end_ticks at.end) _ (letter_step n (end_letter at.end (tick_of_end at.end).says))
-        (λ ticks. end at _ no_scope (end_found n id at found) ticks) (λ _. same _)
+        (λ ticks. end at _ no_scope stands ticks) (λ stays. same _ (of_end at stands stays refl))
 
     by_scope : (o : Option ScopeState) → scope_with_id n id ≡ o
         → P (if_found o (if_found (end_place n id) (tick_at_part n (part_place n id)) (λ at. tick_at_end n at.scope at.end))
         (λ s. tick_at_scope n s now))
     by_scope None none = by_end none (end_place n id) refl
-    by_scope (Some s) here = by_test P (expire s now).answer _ (letter_step n None) (λ expired. scope s here expired) (λ _. same None)
+    by_scope (Some s) here =
+        by_test P (expire s now).answer _ (letter_step n None) (λ expired. scope s here expired) (λ _. same None (nothing refl))
+
+pub tick_cases : (P : TickStep → Type 0) (n : NodeState) (now : ℕ) (id : Id) → OfLetter P n → OfExpiry P n now id → OfEndTick P n id
+    → OfLoneTick P n id → OfUpTick P n id → P (tick_step n now id)
+tick_cases P n now id same scope end alone above = tick_letters P n now id (λ l _. same l) scope end alone above
