@@ -6,7 +6,6 @@ use Rattle.ba_core.specs.declared.protocols.Protocol.{Protocol}
 use Rattle.ba_message.specs.declared.endpoints.Epr.{Epr}
 use Rattle.ba_message.specs.declared.messages.Context.{Context}
 use Rattle.ba_message.specs.declared.messages.Letter.{Letter}
-use Rattle.ba_message.specs.declared.messages.Message.{Message}
 use Rattle.ba_message.specs.declared.messages.Message.TheVariants as message
 use Rattle.ba_scope.specs.Scope.{ScopeState}
 use Rattle.ba_scope.specs.declared.ends.End.{End}
@@ -17,13 +16,14 @@ use Rattle.ba_steps.specs.Node.{Among, HasPart, NodeState}
 use Rattle.ba_steps.specs.declared.inputs.Input.{Input}
 use Rattle.ba_steps.specs.declared.inputs.Input.TheVariants as input
 use Rattle.ba_runs.specs.Links.{HasEnd, IsLink}
-use Rattle.ba_runs.specs.Safety.{EndpointsLead, IsAddressed, KeepsItsEnd, MailFits, of_end, of_enrolment, of_fault, of_part, of_register}
+use Rattle.ba_runs.specs.Safety.{EndpointsLead, IsAddressed, KeepsItsEnd, MailFits, of_enrolment, of_fault}
 use Rattle.ba_runs.specs.World.{Mail, Net, Occasion, PartAt, ScopeAt, answer, coordinator_at, delivers, letter, own, participant_at, registration_at, node_at, ticks}
 use Rattle.ba_runs.specs.WorldSteps.{IsContextOf, IsPossible, IsRegistration, BringsInput, Moves, effect}
 use Rattle.ba_runs.proofs.Goes.{EndComes, EndIsNew, Enrols, IsTold, Makes, NodeGoes, SamePart, Tells, itself}
 use Rattle.ba_runs.proofs.Owners.{one_number}
 use Rattle.ba_runs.proofs.Recorded.{at_or_other}
 use Rattle.ba_runs.proofs.RunLemmas.{Grows, moved_grows}
+use Rattle.ba_runs.proofs.Senders.{no_register, sender}
 use Rattle.ba_runs.proofs.StepsGo.{input_goes, tick_goes}
 
 -- the input that an occasion brings
@@ -47,21 +47,11 @@ IsSender w k scope protocol endpoint = (j : ℕ) × (p : Part) × PartAt w j p �
 sender_of_letter : (w : Net) (k : ℕ) (l : Letter) (scope : Id) (protocol : Option Protocol) (participant : Epr) (known : Protocol)
     → MailFits w (letter l) → l.to ≡ registration_at w k scope → l.message ≡ message.Register protocol participant
     → protocol ≡ Some known → IsSender w k scope known participant
-sender_of_letter w k l scope protocol participant known (of_register j p has number to says) at told is =
-    let same : message.Register (Some p.protocol) (participant_at w j p.id) ≡ message.Register protocol participant = sym says ∙ told in
-    let protocols : ◌≡◌ {A = Option Protocol} (Some p.protocol) protocol = cc in
-    let known_is : ◌≡◌ {A = Option Protocol} (Some p.protocol) (Some known) = protocols ∙ is in
-    let one : p.protocol ≡ known = cc in
-    let endpoint : participant_at w j p.id ≡ participant = cc in
-    (j, p, has, sym to ∙ at, sym endpoint, sym one)
-sender_of_letter w k l scope protocol participant known (of_part j p n has number to says) at told is = absurd cc
-sender_of_letter w k l scope protocol participant known (of_end i s e n has among number to says) at told is = absurd cc
-
-no_register : (n : NodeState) (number : Id) (m : Message) (scope : Id) (protocol : Option Protocol) (participant : Epr)
-    → BringsInput n (answer number m) (input.Register scope protocol participant) → ⊥
-no_register n number (message.Registered c) scope protocol participant h = h
-no_register n number (message.Fault c) scope protocol participant h = h
-no_register n number m scope protocol participant h = h
+sender_of_letter w k l scope protocol participant known fits at told is =
+    let from = sender w k l scope protocol participant fits at told in
+    let protocols : ◌≡◌ {A = Option Protocol} (Some known) (Some from.part.protocol) = sym is ∙ from.protocol_is in
+    let one : known ≡ from.part.protocol = cc in
+    (from.node, from.part, from.has, from.names, from.endpoint, one)
 
 enrols_sender : (w : Net) (k : ℕ) (o : Occasion) (scope : Id) (protocol : Protocol) (endpoint : Epr) → IsAddressed w → IsPossible w k o
     → Enrols (cause_of o) scope protocol endpoint → IsSender w k scope protocol endpoint
@@ -90,8 +80,15 @@ no_create n (answer number (message.Registered c)) expires current kind protocol
 no_create n (answer number (message.Fault c)) expires current kind protocol h = h
 no_create n (answer number m) expires current kind protocol h = h
 
+pub no_join : (n : NodeState) (m : Mail) (protocol : Protocol) (registration : Epr)
+    → BringsInput n m (input.Join protocol registration) → ⊥
+no_join n (letter l) protocol registration h = h
+no_join n (answer number (message.Registered c)) protocol registration h = h
+no_join n (answer number (message.Fault c)) protocol registration h = h
+no_join n (answer number m) protocol registration h = h
+
 -- the registration that an input of the node's own hands in
-makes_registration : (w : Net) (k : ℕ) (o : Occasion) (r : Epr) → IsPossible w k o → Makes (cause_of o) r → IsRegistration w r
+pub makes_registration : (w : Net) (k : ℕ) (o : Occasion) (r : Epr) → IsPossible w k o → Makes (cause_of o) r → IsRegistration w r
 makes_registration w k (own now (input.Create expires current kind protocol)) r possible makes =
     let context : IsContextOf w makes.0 = subst (λ (c : Option Context). IfSome c (IsContextOf w)) makes.1 possible in
     (context.0, context.1, context.2, makes.2 ∙ context.3)
@@ -100,13 +97,8 @@ makes_registration w k (own now (input.Join protocol registration)) r possible m
 makes_registration w k (own now i) r possible makes = absurd makes
 makes_registration w k (delivers now mail (input.Create expires current kind protocol)) r possible makes =
     absurd (no_create (node_at w k) mail expires current kind protocol possible.1)
-makes_registration w k (delivers now mail (input.Join protocol registration)) r possible makes = absurd (no_lead mail possible.1)
-  where
-    no_lead : (m : Mail) → BringsInput (node_at w k) m (input.Join protocol registration) → ⊥
-    no_lead (letter l) h = h
-    no_lead (answer number (message.Registered c)) h = h
-    no_lead (answer number (message.Fault c)) h = h
-    no_lead (answer number m) h = h
+makes_registration w k (delivers now mail (input.Join protocol registration)) r possible makes =
+    absurd (no_join (node_at w k) mail protocol registration possible.1)
 makes_registration w k (delivers now mail i) r possible makes = absurd makes
 makes_registration w k (ticks now id) r possible makes = absurd makes
 
@@ -125,7 +117,7 @@ enrolled_end w k p number id c is has (of_enrolment j q i s e link its its_id sa
     let end : HasEnd w k p s e = subst (λ (x : Part). HasEnd w k x s e) one.1 (subst (λ (n : ℕ). HasEnd w n q s e) one.0 its) in
     let told : c ≡ coordinator_at w i e.id = cc in
     (i, s, e, here, end, told)
-enrolled_end w k p number id c is has (of_fault d says other) named same = absurd cc
+enrolled_end w k p number id c is has (of_fault l d sent answers says other) named same = absurd cc
 
 tells_end : (w : Net) (k : ℕ) (o : Occasion) (p : Part) (c : Epr) → IsAddressed w → IsPossible w k o → PartAt w k p
     → Tells (cause_of o) p.id c → IsItsEnd w k p c

@@ -8,11 +8,11 @@ use Rattle.ba_message.specs.declared.messages.Context.{Context}
 use Rattle.ba_scope.specs.Scope.{ScopeState, same_id}
 use Rattle.ba_scope.specs.declared.parts.Part.{Part}
 use Rattle.ba_steps.specs.Fits.{IsIdAt}
-use Rattle.ba_steps.specs.Node.{Among, NodeState, ids, next_id}
+use Rattle.ba_steps.specs.Node.{Among, NodeState, ids, next_id, scope_ids}
 use Rattle.ba_steps.specs.declared.inputs.Input.TheVariants as input
 use Rattle.ba_steps.proofs.Members.{all_among, among_left, number_is_same}
 use Rattle.ba_steps.proofs.NodeKept.{fresh_of, next_is}
-use Rattle.ba_steps.proofs.Objects.{ids_in_scopes, in_scopes, lone_ids}
+use Rattle.ba_steps.proofs.Objects.{ids_in_scopes, in_scopes, lone_ids, owned_here}
 use Rattle.ba_runs.specs.Runs.{IsRun, IsFirstWorld, goes_on, starts}
 use Rattle.ba_runs.specs.Safety.{IsAddressed}
 use Rattle.ba_runs.specs.Trees.{GenerationsFit, IsChild}
@@ -23,7 +23,7 @@ use Rattle.ba_runs.proofs.AddressedRuns.{run_addressed}
 use Rattle.ba_runs.proofs.Goes.{MakesChild, ScopeComes, ScopeIsNew}
 use Rattle.ba_runs.proofs.MailLemmas.{addressed}
 use Rattle.ba_runs.proofs.Nets.{net_moves}
-use Rattle.ba_runs.proofs.Owners.{fits_here, one_node, one_registration, scope_id}
+use Rattle.ba_runs.proofs.Owners.{fits_here, one_node, one_registration}
 use Rattle.ba_runs.proofs.Recorded.{at_or_other}
 use Rattle.ba_runs.proofs.Tests.{if_false, if_true}
 
@@ -54,19 +54,26 @@ module _ (w w2 : Net) (k : ℕ) (o : Occasion) (joined : Bool) (moves : Moves w 
       subst (λ (n : ℕ). IsIdAt n (next_id (node_at w k) 1)) (is.nodes k).number
       (record { counter = _; spelled = next.spelled; is_counter = (omega arith, room); is_number = next.is_number })
 
-  no_new_here : (s : ScopeState) → ScopeAt w k s → s.id.0 ≡ (next_id (node_at w k) 1).0 → ⊥
-  no_new_here s of same =
+  -- no identifier of an object is that of the next one
+  no_new_here : (s : ScopeState) (id : Id) → ScopeAt w k s → Among (scope_ids s) id → id.0 ≡ (next_id (node_at w k) 1).0 → ⊥
+  no_new_here s id of owned same =
       let n : NodeState = node_at w k in
-      let among : Among (ids n) s.id = among_left (ids_in_scopes n) (lone_ids n) s.id (in_scopes n s s.id of (inl refl)) in
-      let other : same_id (next_id n 1) s.id ≡ false =
-      all_among (λ y. same_id (next_id n 1) y ≡ false) (ids n) s.id
+      let among : Among (ids n) id = among_left (ids_in_scopes n) (lone_ids n) id (in_scopes n s id of owned) in
+      let other : same_id (next_id n 1) id ≡ false =
+      all_among (λ y. same_id (next_id n 1) y ≡ false) (ids n) id
       (fresh_of n.number (ids n) (next_id n 1) (next_is n moves.room) (fits_here w is k).here) among in
-      true≢false (sym (number_is_same (next_id n 1) s.id (sym same)) ∙ other)
+      true≢false (sym (number_is_same (next_id n 1) id (sym same)) ∙ other)
+
+  pub no_new_id : (j : ℕ) (s : ScopeState) (id : Id) → ScopeAt w j s → Among (scope_ids s) id
+      → id.0 ≡ (next_id (node_at w k) 1).0 → ⊥
+  no_new_id j s id of owned same =
+      let here : IsIdAt j id = subst (λ (n : ℕ). IsIdAt n id) (is.nodes j).number
+      (owned_here (node_at w j) s id (fits_here w is j) of owned) in
+      let nodes : j ≡ k = one_node j k id (next_id (node_at w k) 1) here new_is same in
+      no_new_here s id (subst (λ (i : ℕ). ScopeAt w i s) nodes of) owned same
 
   no_new : (j : ℕ) (s : ScopeState) → ScopeAt w j s → s.id.0 ≡ (next_id (node_at w k) 1).0 → ⊥
-  no_new j s of same =
-      let nodes : j ≡ k = one_node j k s.id (next_id (node_at w k) 1) (scope_id w is j s of) new_is same in
-      no_new_here s (subst (λ (i : ℕ). ScopeAt w i s) nodes of) same
+  no_new j s of same = no_new_id j s s.id of (inl refl) same
 
   abbrev made_now : ℕ → ℕ
   made_now id = if nat_eq id (next_id (node_at w k) 1).0 then before.made_so_far else before.made_at id

@@ -1,9 +1,10 @@
 -- A move of a net keeps that each message says where it comes from; for the law that a move keeps a net addressed.
-use Rattle.std.proofs.Common.{◌≡◌, ◌⊎◌, inl, inr, ℕ, Bool, true, false, List, [], Option, None, Some, refl, sym, ap, ◌∙◌, subst, if◌then◌else◌}
+use Rattle.std.proofs.Common.{◌≡◌, ◌≢◌, ◌⊎◌, inl, inr, ℕ, Bool, true, false, List, [], Option, None, Some, refl, sym, ap, ◌∙◌, subst, if◌then◌else◌}
 use Rattle.std.specs.Option.{option_map, option_to_list}
 use Rattle.ba_core.specs.Messages.{notice_code}
+use Rattle.ba_core.specs.declared.codes.Code.{Code}
+use Rattle.ba_core.specs.declared.codes.Code.TheVariants as code
 use Rattle.ba_core.specs.declared.identifiers.Id.{Id}
-use Rattle.ba_core.specs.declared.notices.Notice.{Notice}
 use Rattle.ba_core.specs.declared.protocols.Protocol.{Protocol}
 use Rattle.ba_message.specs.declared.endpoints.Epr.{Epr}
 use Rattle.ba_message.specs.declared.messages.Letter.{Letter}
@@ -23,10 +24,11 @@ use Rattle.ba_runs.specs.Links.{IsLink}
 use Rattle.ba_runs.specs.Safety.{IsAddressed, MailFits, of_end, of_enrolment, of_fault, of_part, of_register}
 use Rattle.ba_runs.specs.World.{Mail, Net, Occasion, PartAt, ScopeAt, answer, coordinator_at, delivers, letter, own, participant_at, registration_at, node_at, ticks}
 use Rattle.ba_runs.specs.WorldSteps.{BringsInput, Moves, answer_to, effect}
-use Rattle.ba_runs.proofs.Addressed.{base_stays, cause_of, coordinator_stays, endpoint_stays, endpoints_lead, goes, link_goes}
+use Rattle.ba_runs.proofs.Addressed.{base_stays, cause_of, coordinator_stays, endpoint_stays, endpoints_lead, goes, grows, link_goes}
 use Rattle.ba_runs.proofs.Goes.{SamePart, from_append}
 use Rattle.ba_runs.proofs.Replies.{IsAnswered, IsOwnLetter, IsOwnLetterIfAny, NoticeReply, RegisterReply, ends, notice_fits, parts, register_fits, registers, tick_fits}
 use Rattle.ba_runs.proofs.RunLemmas.{moved_fits}
+use Rattle.ba_runs.proofs.Senders.{IsSenderOf, sender}
 
 some_letter : {A : Type 0} (x y : A) → ◌≡◌ {A = Option A} (Some x) (Some y) → x ≡ y
 some_letter x y h = cc
@@ -37,19 +39,8 @@ own_letter_fits w k _ (ends s e m of among) = of_end k s e m of among refl refl 
 own_letter_fits w k _ (parts p to m has is) = of_part k p m has refl is refl
 own_letter_fits w k _ (registers p has) = of_register k p has refl refl refl
 
-not_register : {protocol : Option Protocol} {participant : Epr} {n : Notice} → message.Notice n ≡ message.Register protocol participant → ⊥
-not_register h = cc
-
-no_protocol : (w : Net) (l : Letter) (participant : Epr) → MailFits w (letter l) → l.message ≡ message.Register None participant → ⊥
-no_protocol w l participant (of_register j p has number to says) told =
-    let same : message.Register (Some p.protocol) (participant_at w j p.id) ≡ message.Register None participant = sym says ∙ told in
-    let protocols : ◌≡◌ {A = Option Protocol} (Some p.protocol) None = cc in
-    cc
-no_protocol w l participant (of_part j p n has number to says) told = not_register (sym says ∙ told)
-no_protocol w l participant (of_end j s e n of among number to says) told = not_register (sym says ∙ told)
-
 -- an answer isn't answered
-no_answer : (number : Id) (x : Message) (r : Reply) → answer_to (answer number x) r ≡ None
+pub no_answer : (number : Id) (x : Message) (r : Reply) → answer_to (answer number x) r ≡ None
 no_answer number x (reply.Enrolment c) = refl
 no_answer number x (reply.SoapFault c) = refl
 no_answer number x r = refl
@@ -60,7 +51,7 @@ none_sent o m none sends = absurd (no_none (sym none ∙ sends))
     no_none : ◌≡◌ {A = Option Mail} None (Some m) → ⊥
     no_none h = cc
 
-joins : (joined : Bool) (o : Option Mail) (m : Mail) → Among (if joined then option_to_list o else []) m → o ≡ Some m
+pub joins : (joined : Bool) (o : Option Mail) (m : Mail) → Among (if joined then option_to_list o else []) m → o ≡ Some m
 joins true None m h = absurd h
 joins true (Some x) m (inl same) = ap Some same
 joins true (Some x) m (inr h) = absurd h
@@ -100,7 +91,8 @@ module _ (w w2 : Net) (k : ℕ) (o : Occasion) (joined : Bool) (moves : Moves w 
       (f.among, f.same.participant ∙ its.1 ∙ endpoint_stays w w2 k o joined moves is j p q.0 q.2.id)
       (numbered ∙ ap (message_number register_code) (sym q.2.id))
       (says ∙ ap message.Registered (coordinator_stays w w2 k o joined moves is i e f.end f.same.id))
-  old_mail (answer number m) (of_fault c says other) = of_fault c says other
+  old_mail (answer number m) (of_fault l c sent answers says other) =
+      of_fault l c ((grows w w2 k o joined moves is).bag (letter l) sent) answers says other
 
   -- ---- what is sent now
 
@@ -116,54 +108,52 @@ module _ (w w2 : Net) (k : ℕ) (o : Occasion) (joined : Bool) (moves : Moves w 
   same_coordinator id = λ i. coordinator_of (sym (base_stays w w2 k o joined moves is k) i) id
 
   -- the participant of a Register is told the endpoint of its end
-  enrolment_fits : (l : Letter) (scope : Id) (protocol : Option Protocol) (participant c : Epr) → MailFits w (letter l)
-      → BringsInput (node_at w k) (letter l) (input.Register scope protocol participant)
-      → IsAnswered (node_at w k) (node_at w2 k) scope participant c
+  enrolment_fits : (l : Letter) (scope : Id) (protocol : Option Protocol) (participant c : Epr)
+      → IsSenderOf w k l scope protocol participant → IsAnswered (node_at w k) (node_at w2 k) scope participant c
       → MailFits w2 (answer l.number (message.Registered c))
-  enrolment_fits l scope protocol participant c (of_register j p has number to says) leads answered =
-      let q = (goes w w2 k o joined moves is j).parts_forth p has in
-      let same : message.Register (Some p.protocol) (participant_at w j p.id) ≡ message.Register protocol participant =
-      sym says ∙ leads.2 in
-      let endpoint : participant_at w j p.id ≡ participant = cc in
+  enrolment_fits l scope protocol participant c from answered =
+      let q = (goes w w2 k o joined moves is from.node).parts_forth from.part from.has in
       let s : ScopeState = answered.at in
-      let names : q.0.registration ≡ registration_at w k scope = q.2.registration ∙ sym to ∙ leads.1 in
-      of_enrolment j q.0 k s answered.end
-      (registered_link j q.0 s scope q.1 answered.here names answered.who)
-      (answered.among, answered.its ∙ sym endpoint ∙ endpoint_stays w w2 k o joined moves is j p q.0 q.2.id)
-      (number ∙ ap (message_number register_code) (sym q.2.id))
+      of_enrolment from.node q.0 k s answered.end
+      (registered_link from.node q.0 s scope q.1 answered.here (q.2.registration ∙ from.names) answered.who)
+      (answered.among, answered.its ∙ from.endpoint ∙ endpoint_stays w w2 k o joined moves is from.node from.part q.0 q.2.id)
+      (from.number ∙ ap (message_number register_code) (sym q.2.id))
       (ap message.Registered (answered.says ∙ same_coordinator answered.end.id))
-  enrolment_fits l scope protocol participant c (of_part j p n has number to says) leads answered =
-      absurd (not_register (sym says ∙ leads.2))
-  enrolment_fits l scope protocol participant c (of_end j s e n of among number to says) leads answered =
-      absurd (not_register (sym says ∙ leads.2))
+
+  -- a fault answers the letter that was delivered
+  fault_fits : (l : Letter) (c : Code) → Among w.bag (letter l) → c ≢ code.InvalidProtocol → MailFits w2 (answer l.number (message.Fault c))
+  fault_fits l c sent other = of_fault l c ((grows w w2 k o joined moves is).bag (letter l) sent) refl refl other
 
   register_answer : (l : Letter) (scope : Id) (protocol : Option Protocol) (participant : Epr) (m : Mail) (r : Reply)
-      → MailFits w (letter l)
-      → BringsInput (node_at w k) (letter l) (input.Register scope protocol participant)
+      → Among w.bag (letter l) → IsSenderOf w k l scope protocol participant
       → RegisterReply (node_at w k) scope participant (node_at w2 k) r → answer_to (letter l) r ≡ Some m → MailFits w2 m
-  register_answer l scope protocol participant m (reply.Enrolment c) fits leads answered sends =
-      subst (MailFits w2) (some_letter _ m sends) (enrolment_fits l scope protocol participant c fits leads answered)
-  register_answer l scope protocol participant m (reply.SoapFault c) fits leads other sends =
-      subst (MailFits w2) (some_letter _ m sends) (of_fault c refl other)
-  register_answer l scope protocol participant m r fits leads answered sends = absurd cc
+  register_answer l scope protocol participant m (reply.Enrolment c) sent from answered sends =
+      subst (MailFits w2) (some_letter _ m sends) (enrolment_fits l scope protocol participant c from answered)
+  register_answer l scope protocol participant m (reply.SoapFault c) sent from other sends =
+      subst (MailFits w2) (some_letter _ m sends) (fault_fits l c sent other)
+  register_answer l scope protocol participant m r sent from answered sends = absurd cc
 
-  notice_answer : (l : Letter) (m : Mail) (r : Reply) → NoticeReply r → answer_to (letter l) r ≡ Some m → MailFits w2 m
-  notice_answer l m (reply.Enrolment c) other sends = absurd other
-  notice_answer l m (reply.SoapFault c) other sends = subst (MailFits w2) (some_letter _ m sends) (of_fault c refl other)
-  notice_answer l m r other sends = absurd cc
+  notice_answer : (l : Letter) (m : Mail) (r : Reply) → Among w.bag (letter l) → NoticeReply r → answer_to (letter l) r ≡ Some m
+      → MailFits w2 m
+  notice_answer l m (reply.Enrolment c) sent other sends = absurd other
+  notice_answer l m (reply.SoapFault c) sent other sends = subst (MailFits w2) (some_letter _ m sends) (fault_fits l c sent other)
+  notice_answer l m r sent other sends = absurd cc
 
-  delivered : (l : Letter) (now : ℕ) (i : Input) → MailFits w (letter l) → BringsInput (node_at w k) (letter l) i
+  delivered : (l : Letter) (now : ℕ) (i : Input) → Among w.bag (letter l) → BringsInput (node_at w k) (letter l) i
       → node_at w2 k ≡ (node_step (node_at w k) now i).after → (m : Mail)
       → answer_to (letter l) (node_step (node_at w k) now i).reply ≡ Some m → MailFits w2 m
-  delivered l now (input.Register scope (Some known) participant) fits leads state m sends =
-      register_answer l scope (Some known) participant m _ fits leads
+  delivered l now (input.Register scope (Some known) participant) sent leads state m sends =
+      register_answer l scope (Some known) participant m _ sent
+      (sender w k l scope (Some known) participant (is.mail (letter l) sent) leads.1 leads.2)
       (subst (λ (a : NodeState). RegisterReply (node_at w k) scope participant a
       (node_step (node_at w k) now (input.Register scope (Some known) participant)).reply) (sym state)
       (register_fits (node_at w k) scope known participant)) sends
-  delivered l now (input.Register scope None participant) fits leads state m sends =
-      absurd (no_protocol w l participant fits leads.2)
-  delivered l now (input.Notice side id n) fits leads state m sends = notice_answer l m _ (notice_fits (node_at w k) side id n) sends
-  delivered l now i fits leads state m sends = absurd leads
+  delivered l now (input.Register scope None participant) sent leads state m sends =
+      let from = sender w k l scope None participant (is.mail (letter l) sent) leads.1 leads.2 in
+      let protocols : ◌≡◌ {A = Option Protocol} None (Some from.part.protocol) = from.protocol_is in
+      absurd cc
+  delivered l now (input.Notice side id n) sent leads state m sends = notice_answer l m _ sent (notice_fits (node_at w k) side id n) sends
+  delivered l now i sent leads state m sends = absurd leads
 
   ticked_mail : (x : Option Letter) (m : Mail) → IsOwnLetterIfAny (node_at w k) x → option_map letter x ≡ Some m → MailFits w2 m
   ticked_mail None m fits sends = absurd (no_none sends)
@@ -177,8 +167,7 @@ new_mail : (w w2 : Net) (k : ℕ) (o : Occasion) (joined : Bool) → Moves w w2 
     → (effect (node_at w k) o).sends ≡ Some m → MailFits w2 m
 new_mail w w2 k (own now i) joined moves is m sends = none_sent None m refl sends
 new_mail w w2 k (delivers now (letter l) i) joined moves is m sends =
-    delivered w w2 k (delivers now (letter l) i) joined moves is l now i (is.mail (letter l) moves.possible.0) moves.possible.1
-    moves.state m sends
+    delivered w w2 k (delivers now (letter l) i) joined moves is l now i moves.possible.0 moves.possible.1 moves.state m sends
 new_mail w w2 k (delivers now (answer number x) i) joined moves is m sends =
     none_sent _ m (no_answer number x (node_step (node_at w k) now i).reply) sends
 new_mail w w2 k (ticks now id) joined moves is m sends =

@@ -31,7 +31,7 @@ id_small k id is =
     let number = is.is_number in
     omega (arith, e, wide, number)
 
-id_has_text : (k : ℕ) (id : Id) → IsIdAt k id → id.0 < 2 ^ 128
+pub id_has_text : (k : ℕ) (id : Id) → IsIdAt k id → id.0 < 2 ^ 128
 id_has_text k id is = let small : id.0 < 2 ^ 96 = id_small k id is in omega (arith, small)
 
 pub sender_is : (k code : ℕ) (id : Id) → IsIdAt k id → sender_of (message_number code id) ≡ id.0

@@ -159,7 +159,7 @@ module _ (cause : Option Input) where
       by_test (SamePart cause p) (p.owes || p.asks) p (part_in_state (state_at_tick s p) p) (λ _. same_part cause p)
       (λ _. state_same p (state_at_tick s p))
 
-  tick_up_same : (s : ScopeState) (p : Part) → SamePart cause p (tick_of_part (part_at_tick s p)).after
+  pub tick_up_same : (s : ScopeState) (p : Part) → SamePart cause p (tick_of_part (part_at_tick s p)).after
   tick_up_same s p =
       let q : Part = part_at_tick s p in
       let acted = at_tick_same s p in

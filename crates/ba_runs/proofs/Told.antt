@@ -67,24 +67,28 @@ word_sent l notice.Compensate v told h =
 word_sent l n v told h = absurd cc
 
 -- no word is told upwards
-no_word_up : (l : LinkState) (n : Notice) (v : Verdict) → word_told n ≡ Some v → message_fits l (to_end n) ≡ true → ⊥
+pub no_word_up : (l : LinkState) (n : Notice) (v : Verdict) → word_told n ≡ Some v → message_fits l (to_end n) ≡ true → ⊥
 no_word_up l notice.Close v told h = true≢false (sym h)
 no_word_up l notice.Cancel v told h = true≢false (sym h)
 no_word_up l notice.Compensate v told h = true≢false (sym h)
 no_word_up l n v told h = absurd cc
 
 -- the end that a link shows is an end of its scope
-pub shown_end : (s : ScopeState) (here : Epr) (x : link.End) → option_map side_of (end_of s.ends here) ≡ Some x
-    → (e : End) × Among s.ends e × (e.participant ≡ here) × (e.verdict ≡ x.verdict)
-shown_end s here x h = by_found (end_of s.ends here) refl h
+pub shown_side : (s : ScopeState) (here : Epr) (x : link.End) → option_map side_of (end_of s.ends here) ≡ Some x
+    → (e : End) × Among s.ends e × (e.participant ≡ here) × (side_of e ≡ x)
+shown_side s here x h = by_found (end_of s.ends here) refl h
   where
     by_found : (o : Option End) → end_of s.ends here ≡ o → option_map side_of o ≡ Some x
-        → (e : End) × Among s.ends e × (e.participant ≡ here) × (e.verdict ≡ x.verdict)
+        → (e : End) × Among s.ends e × (e.participant ≡ here) × (side_of e ≡ x)
     by_found None found h = absurd cc
     by_found (Some e) found h =
         let first = first_is (λ (y : End). same_epr y.participant here) s.ends e found in
         let same : side_of e ≡ x = cc in
-        (e, first.0, endpoints_equal e.participant here first.1, ap (λ (y : link.End). y.verdict) same)
+        (e, first.0, endpoints_equal e.participant here first.1, same)
+
+pub shown_end : (s : ScopeState) (here : Epr) (x : link.End) → option_map side_of (end_of s.ends here) ≡ Some x
+    → (e : End) × Among s.ends e × (e.participant ≡ here) × (e.verdict ≡ x.verdict)
+shown_end s here x h = let e = shown_side s here x h in (e.0, e.1, e.2, ap (λ (y : link.End). y.verdict) e.3)
 
 module _ (w : Net) (sound : IsSound w) where
   told_by : (l : Letter) (n : Notice) (v : Verdict) → Among w.bag (letter l) → l.message ≡ message.Notice n → word_told n ≡ Some v

@@ -1,44 +1,22 @@
 -- In a sound net each end with a verdict has that word, an end has one word, and each word that was told is that of its end;
 -- for the law that what is sound is safe.
-use Rattle.std.proofs.Common.{◌≡◌, inr, ℕ, zero, suc, ◌<◌, true, ◌&&◌, Option, None, Some, arith, refl, sym, ap, ◌∙◌, subst, true≢false}
-use Rattle.std.proofs.lemmas.Bool.{and_parts}
-use Rattle.ba_core.specs.EndRows.{is_end_state}
+use Rattle.std.proofs.Common.{◌≡◌, inr, ℕ, zero, suc, ◌<◌, Option, None, Some, arith, refl, sym, ap, ◌∙◌, subst}
 use Rattle.ba_core.specs.declared.protocols.Verdict.{Verdict}
-use Rattle.ba_core.specs.declared.protocols.Verdict.TheVariants.{Close, Undo}
-use Rattle.ba_link.specs.Pairs.{verdict_fits_state}
-use Rattle.ba_scope.specs.Fits.{above, end_fits, same_verdict, state_fits_above, up_state, verdict_fits_scope}
-use Rattle.ba_scope.specs.Rules.{own_choice}
+use Rattle.ba_scope.specs.Fits.{above}
 use Rattle.ba_scope.specs.Scope.{ScopeState}
 use Rattle.ba_scope.specs.declared.ends.End.{End}
 use Rattle.ba_scope.specs.declared.parts.Part.{Part}
 use Rattle.ba_steps.specs.Node.{Among}
+use Rattle.ba_runs.specs.Links.{HasEnd}
 use Rattle.ba_runs.specs.Safety.{IsSound}
 use Rattle.ba_runs.specs.Trees.{IsChild}
 use Rattle.ba_runs.specs.Words.{HasWord, of_child, of_root}
 use Rattle.ba_runs.specs.World.{Net, ScopeAt, participant_at}
+use Rattle.ba_runs.proofs.EndLemmas.{childs_verdict}
 use Rattle.ba_runs.proofs.Owners.{end_fits_here, one_end_here, one_participant, one_registration, scope_fits_here}
 
 some_verdict : {u v : Verdict} → ◌≡◌ {A = Option Verdict} (Some u) (Some v) → u ≡ v
 some_verdict h = cc
-
--- ---- below an upward part each end has its scope's verdict
-
-same_as : (scope : Option Verdict) (v : Verdict) → same_verdict scope (Some v) ≡ true → scope ≡ Some v
-same_as None v h = absurd (true≢false (sym h))
-same_as (Some Close) Close h = refl
-same_as (Some Close) Undo h = absurd (true≢false (sym h))
-same_as (Some Undo) Close h = absurd (true≢false (sym h))
-same_as (Some Undo) Undo h = refl
-
-childs_verdict : (s : ScopeState) (up : Part) (e : End) (v : Verdict) → s.up ≡ Some up → end_fits (above s) e ≡ true
-    → e.verdict ≡ Some v → s.verdict ≡ Some v
-childs_verdict s up e v is_up fit has =
-    let both = and_parts (is_end_state e.protocol e.state && verdict_fits_state e.state e.verdict)
-    (verdict_fits_scope (up_state s.up) s.kind s.verdict e.verdict (own_choice e) && state_fits_above (up_state s.up) e.state) fit in
-    let own = (and_parts (verdict_fits_scope (up_state s.up) s.kind s.verdict e.verdict (own_choice e))
-    (state_fits_above (up_state s.up) e.state) both.1).0 in
-    let below = subst (λ (u : Option Part). verdict_fits_scope (up_state u) s.kind s.verdict e.verdict (own_choice e) ≡ true) is_up own in
-    same_as s.verdict v (subst (λ (x : Option Verdict). same_verdict s.verdict x ≡ true) has below)
 
 -- when a scope was made
 abbrev pub age : (w : Net) → IsSound w → ScopeState → ℕ
@@ -80,27 +58,47 @@ module _ (w : Net) (sound : IsSound w) where
   root_and_child s t up same root above =
       let both : ◌≡◌ {A = Option Part} None (Some up) = sym root ∙ ap (λ (x : ScopeState). x.up) same ∙ above in absurd cc
 
-  pub one_word : (id : ℕ) (v u : Verdict) → HasWord w id v → HasWord w id u → u ≡ v
-  one_word id v u (of_root k s e has root among own is) (of_root l t f has_too root_too among_too own_too is_too) =
+  -- a word of an end of a root is its verdict
+  pub word_in_root : (k : ℕ) (s : ScopeState) (e : End) (id : ℕ) (v : Verdict) → ScopeAt w k s → s.up ≡ None → Among s.ends e → e.id.0 ≡ id
+      → HasWord w id v → e.verdict ≡ Some v
+  word_in_root k s e id v has root among own (of_root l t f has_too root_too among_too own_too is) =
       let one = one_end_here w sound.addressed k l s t e f has has_too among among_too (own ∙ sym own_too) in
-      some_verdict (sym is_too ∙ ap (λ (x : End). x.verdict) (sym one.2) ∙ is)
-  one_word id v u (of_root k s e has root among own is) (of_child l t up f j r over child among_too own_too over_has word) =
+      ap (λ (x : End). x.verdict) one.2 ∙ is
+  word_in_root k s e id v has root among own (of_child l t up f j r over child among_too own_too over_has word) =
       let one = one_end_here w sound.addressed k l s t e f has child.child among among_too (own ∙ sym own_too) in
       absurd (root_and_child s t up one.1 root child.has_upward)
-  one_word id v u (of_child l t up f j r over child among_too own_too over_has word) (of_root k s e has root among own is) =
-      let one = one_end_here w sound.addressed k l s t e f has child.child among among_too (own ∙ sym own_too) in
-      absurd (root_and_child s t up one.1 root child.has_upward)
-  one_word id v u (of_child k s up e i r over child among own over_has word)
-      (of_child l t q f j x above_too child_too among_too own_too has_too word_too) =
+
+  -- a word of an end of a child is that of the end that enrolled the child's upward part
+  pub word_above : (k i : ℕ) (s r : ScopeState) (up : Part) (e : End) (id : ℕ) (v : Verdict) → IsChild w k s up i r → Among s.ends e
+      → e.id.0 ≡ id → HasWord w id v → (over : End) × HasEnd w k up r over × HasWord w over.id.0 v
+  word_above k i s r up e id v child among own (of_root l t f has root among_too own_too is) =
+      let one = one_end_here w sound.addressed l k t s f e has child.child among_too among (own_too ∙ sym own) in
+      absurd (root_and_child t s up one.1 root child.has_upward)
+  word_above k i s r up e id v child among own (of_child l t q f j x over child_too among_too own_too over_has word) =
       let one = one_end_here w sound.addressed k l s t e f child.child child_too.child among among_too (own ∙ sym own_too) in
       let ups : ◌≡◌ {A = Option Part} (Some up) (Some q) =
       sym child.has_upward ∙ ap (λ (y : ScopeState). y.up) one.1 ∙ child_too.has_upward in
       let same : up ≡ q = cc in
       let parents = one_registration w sound.addressed i j r x child.parent child_too.parent
-      (sym child.names ∙ ap (λ (p : Part). p.registration) same ∙ child_too.names) in
-      let above_here : Among x.ends over = subst (λ (y : ScopeState). Among y.ends over) parents.1 over_has.0 in
-      let endpoints : over.participant ≡ above_too.participant =
-      over_has.1 ∙ (λ i. participant_at w (one.0 i) (same i).id) ∙ sym has_too.1 in
-      let ends : over ≡ above_too =
-      one_participant x.ends over above_too (scope_fits_here w sound.addressed j x child_too.parent).apart above_here has_too.0 endpoints in
-      one_word over.id.0 v u word (subst (λ (y : End). HasWord w y.id.0 u) (sym ends) word_too)
+      (sym child.names ∙ ap (λ (p : Part). p.registration) same ∙ child_too.names) in (
+        over,
+        (
+          subst (λ (y : ScopeState). Among y.ends over) (sym parents.1) over_has.0,
+          over_has.1 ∙ sym (λ i. participant_at w (one.0 i) (same i).id),
+        ),
+        word,
+      )
+
+  -- the end that enrolled an upward part is one
+  pub one_over : (k i : ℕ) (s r : ScopeState) (up : Part) (over other : End) → IsChild w k s up i r → HasEnd w k up r over
+      → HasEnd w k up r other → over ≡ other
+  one_over k i s r up over other child is is_too =
+      one_participant r.ends over other (scope_fits_here w sound.addressed i r child.parent).apart is.0 is_too.0 (is.1 ∙ sym is_too.1)
+
+  pub one_word : (id : ℕ) (v u : Verdict) → HasWord w id v → HasWord w id u → u ≡ v
+  one_word id v u (of_root k s e has root among own is) other =
+      some_verdict (sym (word_in_root k s e id u has root among own other) ∙ is)
+  one_word id v u (of_child k s up e i r over child among own over_has word) other =
+      let above_it = word_above k i s r up e id u child among own other in
+      let ends = one_over k i s r up over above_it.0 child over_has above_it.1 in
+      one_word over.id.0 v u word (subst (λ (y : End). HasWord w y.id.0 u) (sym ends) above_it.2)

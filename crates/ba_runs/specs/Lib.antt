@@ -1,4 +1,5 @@
 pub mod Links
+pub mod Records
 pub mod Runs
 pub mod Safety
 pub mod Trees

@@ -1,11 +1,12 @@
 -- Believe: the links of a world: of each participant and the scope that its registration names; and the end that enrolled
 -- the participant there.
-use Rattle.std.specs.Prelude.{◌≡◌, ◌⊎◌, ℕ, List, Option, None, Some, nat_eq, if◌then◌else◌}
+use Rattle.std.specs.Prelude.{◌≡◌, ◌⊎◌, ℕ, Bool, List, [], Option, None, Some, nat_eq, if◌then◌else◌}
 use Rattle.std.specs.List.{filter_map}
 use Rattle.std.specs.Option.{option_map}
 use Rattle.ba_core.specs.declared.codes.Code.TheVariants as code
+use Rattle.ba_core.specs.declared.protocols.Protocol.{Protocol}
 use Rattle.ba_link.specs.Link as link
-use Rattle.ba_link.specs.Link.{Link, LinkState, LinkStep, refused_for_good, refused_for_now, register, registered, to_end, to_part}
+use Rattle.ba_link.specs.Link.{Link, LinkState, LinkStep, refused_for_good, refused_for_now, register, registered, registering_link, to_end, to_part}
 use Rattle.ba_message.specs.Endpoints.{same_epr}
 use Rattle.ba_message.specs.declared.endpoints.Epr.{Epr}
 use Rattle.ba_message.specs.declared.messages.Message.{Message}
@@ -97,6 +98,11 @@ abbrev pub StepsFrom : Net → Net → ℕ → Part → ℕ → ScopeState → T
 StepsFrom w w2 j p2 l r2 =
     (p : Part) × (r : ScopeState) × IsLink w j p l r × StepsByTwo (link_in w j p r) (link_in w2 j p2 r2)
 
--- each link after a step comes from one before it
+-- a new link: its participant is Registering, it has no end, and nothing was sent on it
+abbrev pub Begins : Link → Type 0
+Begins a = (protocol : Protocol) × (sealed : Bool) × (a ≡ registering_link protocol sealed [])
+
+-- each link after a step comes from one before it, or it begins
 abbrev pub LinksStep : Net → Net → Type 0
-LinksStep w w2 = (j : ℕ) (p2 : Part) (l : ℕ) (r2 : ScopeState) → IsLink w2 j p2 l r2 → StepsFrom w w2 j p2 l r2
+LinksStep w w2 =
+    (j : ℕ) (p2 : Part) (l : ℕ) (r2 : ScopeState) → IsLink w2 j p2 l r2 → StepsFrom w w2 j p2 l r2 ⊎ Begins (link_in w2 j p2 r2)

@@ -1,7 +1,10 @@
 -- Believe: runs of a world, from one without objects; and that an end was Completed in one of the worlds of a run.
-use Rattle.std.specs.Prelude.{◌≡◌, ℕ, ◌≤◌, ◌<◌, ◌^◌, List, [], ◌∷◌, None}
+use Rattle.std.specs.Prelude.{◌≡◌, ℕ, ◌≤◌, ◌<◌, ◌^◌, Bool, List, [], ◌∷◌, None}
 use Rattle.ba_core.specs.declared.identifiers.Id.{Id}
+use Rattle.ba_core.specs.declared.states.How.TheVariants.{Closed}
+use Rattle.ba_core.specs.declared.states.CState.{CState}
 use Rattle.ba_core.specs.declared.states.CState.TheVariants as end
+use Rattle.ba_link.specs.States.{end_among}
 use Rattle.ba_record.specs.Coding.{InRange}
 use Rattle.ba_record.specs.declared.records.Record.TheVariants as journal
 use Rattle.ba_scope.specs.Scope.{ScopeState}
@@ -27,6 +30,10 @@ pub record IsFirstWorld (w : World) : Type 0 where
 pub data IsRun : List World → Type 0 where
   starts : {w : World} → IsFirstWorld w → IsRun (w ∷ [])
   goes_on : {w w2 : World} {before : List World} → IsRun (w ∷ before) → WorldStep w w2 → IsRun (w2 ∷ w ∷ before)
+
+-- the end was told to close, or is told it when it ticks
+abbrev pub is_closing_state : CState → Bool
+is_closing_state = end_among (end.Closing ∷ end.Ended Closed ∷ [])
 
 -- an end was Completed in one of these worlds
 pub data WasCompleted : List World → Id → Type 0 where

@@ -45,8 +45,9 @@ pub data MailFits (w : Net) : Mail → Type 0 where
   of_enrolment : {number : Id} {m : Message} (j : ℕ) (p : Part) (k : ℕ) (s : ScopeState) (e : End) → IsLink w j p k s
       → HasEnd w j p s e → number ≡ message_number register_code p.id → m ≡ message.Registered (coordinator_at w k e.id)
       → MailFits w (answer number m)
-  -- a fault; none says InvalidProtocol
-  of_fault : {number : Id} {m : Message} (c : Code) → m ≡ message.Fault c → c ≢ code.InvalidProtocol → MailFits w (answer number m)
+  -- a fault answers a letter that was sent; none says InvalidProtocol
+  of_fault : {number : Id} {m : Message} (l : Letter) (c : Code) → Among w.bag (letter l) → number ≡ l.number → m ≡ message.Fault c
+      → c ≢ code.InvalidProtocol → MailFits w (answer number m)
 
 -- ---- what is safe
 

@@ -1,19 +1,36 @@
 //! Laws of worlds. Each function does nothing: its contract is the law.
-ghost use Rattle.std.specs.Prelude.{◌≡◌, ◌⊎◌, ℕ, ◌≤◌, ◌<◌, ◌^◌, Bool, true, false, List, ◌∷◌, Some, IsTrue};
+ghost use Rattle.std.specs.Prelude.{◌≡◌, ◌≢◌, ◌⊎◌, ◌↔◌, ℕ, ◌≤◌, ◌<◌, ◌^◌, Bool, true, false, List, ◌∷◌, None, Some, IsTrue};
+ghost use Rattle.ba_core.specs.Messages.{notice_code};
+ghost use Rattle.ba_core.specs.declared.codes.Code.TheVariants as code;
+ghost use Rattle.ba_core.specs.declared.identifiers.Id.{Id};
+ghost use Rattle.ba_core.specs.declared.notices.Notice.{Notice};
+ghost use Rattle.ba_core.specs.declared.notices.Notice.TheVariants as notice;
+ghost use Rattle.ba_core.specs.declared.protocols.Kind.{Kind};
+ghost use Rattle.ba_core.specs.declared.protocols.Side.{Side};
+ghost use Rattle.ba_core.specs.declared.protocols.Verdict.{Verdict};
+ghost use Rattle.ba_link.specs.Outcomes.{is_outcome, outcome_kept};
+ghost use Rattle.ba_message.specs.declared.messages.Letter.{Letter};
+ghost use Rattle.ba_message.specs.declared.messages.Message.TheVariants as message;
 ghost use Rattle.ba_record.specs.Coding.{InRange};
 ghost use Rattle.ba_record.specs.declared.records.Record.TheVariants as journal;
-ghost use Rattle.ba_scope.specs.Fits.{ScopeFits, part_fits};
+ghost use Rattle.ba_scope.specs.Fits.{ScopeFits, is_below_completed, part_fits};
 ghost use Rattle.ba_scope.specs.Scope.{ScopeState};
 ghost use Rattle.ba_scope.specs.declared.ends.End.{End};
 ghost use Rattle.ba_scope.specs.declared.parts.Part.{Part};
-ghost use Rattle.ba_steps.specs.Fits.{HasSpareCounters};
-ghost use Rattle.ba_steps.specs.Node.{Among};
-ghost use Rattle.ba_runs.specs.Links.{HasOneLink};
-ghost use Rattle.ba_runs.specs.Runs.{IsRun, IsFirstWorld};
-ghost use Rattle.ba_runs.specs.Safety.{IsAddressed, IsItsRecords, IsSafe, IsSound, KeepsItsEnd};
-ghost use Rattle.ba_runs.specs.Trees.{GenerationsFit};
-ghost use Rattle.ba_runs.specs.World.{Net, Occasion, PartAt, ScopeAt, World, is_up, net_of};
-ghost use Rattle.ba_runs.specs.WorldSteps.{IsPossible, Moves, Takes, WorldStep};
+ghost use Rattle.ba_steps.specs.Addresses.{message_number, sender_of};
+ghost use Rattle.ba_steps.specs.Fits.{HasSpareCounters, IsIdAt};
+ghost use Rattle.ba_steps.specs.Node.{Among, counter};
+ghost use Rattle.ba_steps.specs.Steps.{node_step};
+ghost use Rattle.ba_steps.specs.declared.answers.Reply.TheVariants as reply;
+ghost use Rattle.ba_steps.specs.declared.inputs.Input.TheVariants as input;
+ghost use Rattle.ba_runs.specs.Links.{HasEnd, HasOneLink, LinksStep};
+ghost use Rattle.ba_runs.specs.Records.{HasActed, RecordsOutcome, WasRecorded};
+ghost use Rattle.ba_runs.specs.Runs.{IsRun, IsFirstWorld, WasCompleted, is_closing_state};
+ghost use Rattle.ba_runs.specs.Safety.{IsAddressed, IsItsRecords, IsSafe, IsSound, IsSoundWorld, KeepsItsEnd};
+ghost use Rattle.ba_runs.specs.Trees.{GenerationsFit, IsChild, IsKeptUnder, IsUnder, TreesFit};
+ghost use Rattle.ba_runs.specs.Words.{HasWord};
+ghost use Rattle.ba_runs.specs.World.{Net, Occasion, PartAt, ScopeAt, World, is_up, letter, net_of, node_at};
+ghost use Rattle.ba_runs.specs.WorldSteps.{BringsInput, IsPossible, Moves, Takes, WorldStep};
 
 /// A step of a world leaves its states and messages, or is the step of one node, whose message joins the others or is lost.
 pub fn steps_move_a_net()
@@ -65,4 +82,85 @@ pub fn what_is_possible_can_happen()
 pub fn children_follow_their_parents()
     ensures step { (w w2 : World) → WorldStep w w2 → IsAddressed (net_of w) → GenerationsFit (net_of w) → GenerationsFit (net_of w2) }
     ensures run { (w : World) (before : List World) → IsRun (w ∷ before) → GenerationsFit (net_of w) }
+{}
+
+/// Each move of a sound net keeps that trees fit: a child with a verdict has an end above it, and that end has the same verdict.
+pub fn trees_stay_fit()
+    ensures { (w w2 : Net) (k : ℕ) (o : Occasion) (joined : Bool) → Moves w w2 k o joined → IsSound w → TreesFit w2 }
+{}
+
+/// In a sound net each end of a root has its own verdict as its word; and each end that hangs below a child scope, at any depth, has
+/// the word of the end that enrolled the child's own participant.
+pub fn words_come_down()
+    ensures root { (w : Net) → IsSound w → (k : ℕ) (s : ScopeState) (e : End) (v : Verdict) → ScopeAt w k s → s.up ≡ None
+        → Among s.ends e → HasWord w e.id.0 v ↔ (e.verdict ≡ Some v) }
+    ensures child { (w : Net) → IsSound w → (l j : ℕ) (c r : ScopeState) (upward : Part) (over : End) → IsChild w l c upward j r
+        → HasEnd w l upward r over → (k : ℕ) (s : ScopeState) → IsUnder w l c k s → (e : End) (v : Verdict) → Among s.ends e
+        → HasWord w e.id.0 v ↔ HasWord w over.id.0 v }
+{}
+
+/// In a sound net all ends of an AtomicOutcome tree have one word, which is its root's verdict. Where that is to close, each end below
+/// no end that leaves is completed, or closes, or leaves.
+pub fn atomic_trees_have_one_word()
+    ensures word { (w : Net) → IsSound w → (l : ℕ) (root : ScopeState) → root.up ≡ None → root.kind ≡ Kind.Atomic → (k : ℕ)
+        (s : ScopeState) → IsUnder w l root k s → (e : End) (v : Verdict) → Among s.ends e
+        → HasWord w e.id.0 v ↔ (root.verdict ≡ Some v) }
+    ensures ready { (w : Net) → IsSound w → (l : ℕ) (root : ScopeState) → root.up ≡ None → root.kind ≡ Kind.Atomic
+        → root.verdict ≡ Some Verdict.Close → (k : ℕ) (s : ScopeState) → IsKeptUnder w l root k s → (e : End) → Among s.ends e
+        → IsTrue (is_below_completed e.state) }
+{}
+
+/// In a sound net no notice that was sent is answered by InvalidState where it leads. So it is in each world of each run.
+pub fn notices_are_in_place()
+    ensures net { (w : Net) → IsSound w → (k now : ℕ) (l : Letter) (side : Side) (id : Id) (n : Notice) → Among w.bag (letter l)
+        → BringsInput (node_at w k) (letter l) (input.Notice side id n)
+        → (node_step (node_at w k) now (input.Notice side id n)).reply ≢ reply.SoapFault code.InvalidState }
+    ensures run { (w : World) (before : List World) → IsRun (w ∷ before) → (k now : ℕ) (l : Letter) (side : Side) (id : Id) (n : Notice)
+        → Among w.bag (letter l) → BringsInput (w.nodes k).state (letter l) (input.Notice side id n)
+        → (node_step (w.nodes k).state now (input.Notice side id n)).reply ≢ reply.SoapFault code.InvalidState }
+{}
+
+/// In each run an end that closes, or has closed, was Completed in an earlier world; and so was an end whose Close was ever sent.
+pub fn what_closes_was_completed()
+    ensures state { (w : World) (before : List World) → IsRun (w ∷ before) → (k : ℕ) (s : ScopeState) (e : End)
+        → ScopeAt (net_of w) k s → Among s.ends e → IsTrue (is_closing_state e.state) → WasCompleted (w ∷ before) e.id }
+    ensures told { (w : World) (before : List World) → IsRun (w ∷ before) → (l : Letter) (k : ℕ) (s : ScopeState)
+        (e : End) → Among w.bag (letter l) → l.message ≡ message.Notice notice.Close → ScopeAt (net_of w) k s
+        → Among s.ends e → sender_of l.number ≡ e.id.0 → WasCompleted (w ∷ before) e.id }
+{}
+
+/// In each run the records of a node say that an end received Fail, Exit or CannotComplete exactly where such a notice, which had been
+/// sent, was delivered to the end in a state whose row for it leads to another state, and the record of that step was kept. And each
+/// such notice that was ever sent is that of a participant which did so before, by a step whose record was kept. The end's state keeps
+/// what was recorded for it, and no step records another outcome there, or the same again.
+pub fn outcomes_are_recorded()
+    ensures received { (w : World) (before : List World) → IsRun (w ∷ before) → (k : ℕ) (id : Id) (n : Notice) → IsIdAt k id
+        → IsTrue (is_outcome n) → Among (w.nodes k).records (journal.Received (counter id) n) ↔ WasRecorded (w ∷ before) k id n }
+    ensures acted { (w : World) (before : List World) → IsRun (w ∷ before) → (l : Letter) (n : Notice) → Among w.bag (letter l)
+        → l.message ≡ message.Notice n → IsTrue (is_outcome n) → (j : ℕ) × (p : Part) × PartAt (net_of w) j p
+        × (l.number ≡ message_number (notice_code n) p.id) × HasActed (w ∷ before) j p.id n }
+    ensures kept { (w : World) (before : List World) → IsRun (w ∷ before) → (k : ℕ) (id : Id) (n : Notice)
+        → WasRecorded (w ∷ before) k id n → (s : ScopeState) (e : End) → ScopeAt (net_of w) k s → Among s.ends e → e.id ≡ id
+        → outcome_kept e.state ≡ Some n }
+    ensures once { (w w2 : World) (before : List World) → IsRun (w ∷ before) → (k : ℕ) (id : Id) (n m : Notice)
+        → WasRecorded (w ∷ before) k id n → RecordsOutcome w w2 k id m → ⊥ }
+{}
+
+/// Each link moves by its table: after a move of a sound net each link comes from one before it by at most two moves, or it is new, and
+/// begins. So it is with each step in each run.
+pub fn each_link_moves_by_its_table()
+    ensures net { (w w2 : Net) (k : ℕ) (o : Occasion) (joined : Bool) → Moves w w2 k o joined → IsSound w → LinksStep w w2 }
+    ensures run { (w w2 : World) (before : List World) → IsRun (w ∷ before) → WorldStep w w2 → LinksStep (net_of w) (net_of w2) }
+{}
+
+/// Every step keeps a world sound: whatever is given, delivered, repeated or lost, whichever node ticks, stops or is loaded again, with
+/// the record that was pending or without it.
+pub fn every_step_is_safe()
+    ensures { (w w2 : World) → WorldStep w w2 → IsSoundWorld w → IsSoundWorld w2 }
+{}
+
+/// Each world of each run is sound, and so it is safe.
+pub fn every_run_is_safe()
+    ensures sound { (w : World) (before : List World) → IsRun (w ∷ before) → IsSoundWorld w }
+    ensures safe { (w : World) (before : List World) → IsRun (w ∷ before) → IsSafe (net_of w) }
 {}
