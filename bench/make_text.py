@@ -1,19 +1,44 @@
 #!/usr/bin/env python3
-"""Prints a text of XML: `envelope`, `elements` (many small ones) or `text` (one long one) of about so many bytes, or one
-that is made to cost much: `namespace`, one of 130,000 bytes that 16,000 elements use, or `attributes`, 500 elements
-that have 31 attributes each in such a namespace."""
+"""Prints an envelope, as a text of XML.
+
+Of about so many bytes: `envelope`, `elements` and `text` are a Close whose element holds items, many small elements, or
+one long text, all of which a reader of messages skips; `register` is a Register with an endpoint at its limits, and
+other elements beside it.
+Made to cost much: `namespace`, a Close that holds 16,000 elements in one namespace of 130,000 bytes, and `attributes`, one that
+holds 500 elements with 31 attributes each in such a namespace."""
 import sys
 
 SOAP = "http://schemas.xmlsoap.org/soap/envelope/"
 WSA = "http://www.w3.org/2005/08/addressing"
-ENVELOPE = (
-    f'<S:Envelope xmlns:S="{SOAP}"><S:Header><To xmlns="{WSA}">http://node1/coordinator/1</To>'
-    f'<Action xmlns="{WSA}" S:mustUnderstand="1">urn:action</Action></S:Header><S:Body>%s</S:Body></S:Envelope>'
+WSBA = "http://docs.oasis-open.org/ws-tx/wsba/2006/06"
+WSCOOR = "http://docs.oasis-open.org/ws-tx/wscoor/2006/06"
+
+
+def envelope(action, more, body):
+    return (
+        f'<S:Envelope xmlns:S="{SOAP}"><S:Header><To xmlns="{WSA}">http://node1/coordinator/1</To>'
+        f'<Action xmlns="{WSA}" S:mustUnderstand="1">{action}</Action>{more}</S:Header><S:Body>{body}</S:Body></S:Envelope>'
+    )
+
+
+CLOSE = envelope(f"{WSBA}/Close", "", f'<Close xmlns="{WSBA}">%s</Close>')
+PARAMETER = '<i:Key xmlns:i="urn:app:%d">' + "k" * 460 + "</i:Key>"
+REGISTER = envelope(
+    f"{WSCOOR}/Register",
+    f'<MessageID xmlns="{WSA}">uuid:77</MessageID>',
+    f'<c:Register xmlns:c="{WSCOOR}" xmlns:a="{WSA}">'
+    f"<c:ProtocolIdentifier>{WSBA}/ParticipantCompletion</c:ProtocolIdentifier>"
+    "<c:ParticipantProtocolService><a:Address>http://127.0.0.1:9000/p</a:Address><a:ReferenceParameters>"
+    + "".join(PARAMETER % number for number in range(8))
+    + "</a:ReferenceParameters></c:ParticipantProtocolService>%s</c:Register>",
 )
+SMALL = REGISTER.replace("k" * 460, "k" * 40)
+ITEM = '<t:Item xmlns:t="urn:items" number="%d">booked &amp; paid</t:Item>'
 PIECES = {
-    "envelope": '<t:Item xmlns:t="urn:items" number="%d">booked &amp; paid</t:Item>',
-    "elements": '<a b="%d"/>',
-    "text": "A long text, without any element in it, that goes on &lt;and on&gt;. ",
+    "envelope": (CLOSE, ITEM),
+    "elements": (CLOSE, '<a b="%d"/>'),
+    "text": (CLOSE, "A long text, without any element in it, that goes on &lt;and on&gt;. "),
+    "register": (REGISTER, ITEM),
 }
 LONG = "urn:" + "n" * 129_996
 NAMES = "ABCDEFGHIJKLMNOPQRSTUVWXYZabcde"
@@ -26,10 +51,13 @@ DEAR = {
 def main():
     kind = sys.argv[1]
     if kind in DEAR:
-        print(f'<p:all xmlns:p="{LONG}">{DEAR[kind]}</p:all>', end="")
+        print(CLOSE % f'<p:all xmlns:p="{LONG}">{DEAR[kind]}</p:all>', end="")
         return
     size = int(sys.argv[2])
-    piece, body, length, number = PIECES[kind], [], len(ENVELOPE) - 2, 0
+    whole, piece = PIECES[kind]
+    if kind == "register" and size < len(whole):
+        whole = SMALL
+    body, length, number = [], len(whole) - 2, 0
     while True:
         number += 1
         one = piece % number if "%d" in piece else piece
@@ -37,7 +65,7 @@ def main():
         if length > size:
             break
         body.append(one)
-    print(ENVELOPE % "".join(body), end="")
+    print(whole % "".join(body), end="")
 
 
 main()

@@ -23,7 +23,7 @@ replay_reads replay.Memory is = absurd (omega arith)
 replay_reads replay.TooManyLines is = absurd (omega arith)
 
 pub check_reads : (why : CheckFault) → check_status why ≡ 4 → why ≡ check.Read
-check_reads (check.Refused reason place) is = absurd (omega arith)
+check_reads (check.Refused reason) is = absurd (omega arith)
 check_reads check.Read is = refl
 check_reads check.Write is = absurd (omega arith)
 check_reads check.Memory is = absurd (omega arith)
@@ -47,7 +47,7 @@ replay_writes replay.Memory is = absurd (omega arith)
 replay_writes replay.TooManyLines is = absurd (omega arith)
 
 pub check_writes : (why : CheckFault) → check_status why ≡ 5 → why ≡ check.Write
-check_writes (check.Refused reason place) is = absurd (omega arith)
+check_writes (check.Refused reason) is = absurd (omega arith)
 check_writes check.Read is = absurd (omega arith)
 check_writes check.Write is = refl
 check_writes check.Memory is = absurd (omega arith)
@@ -71,7 +71,7 @@ replay_known replay.Memory = refl
 replay_known replay.TooManyLines = refl
 
 check_known : (why : CheckFault) → IsStatus (check_status why)
-check_known (check.Refused reason place) = refl
+check_known (check.Refused reason) = refl
 check_known check.Read = refl
 check_known check.Write = refl
 check_known check.Memory = refl
@@ -102,7 +102,7 @@ replay_late replay.Memory = omega arith
 replay_late replay.TooManyLines = omega arith
 
 check_late : (why : CheckFault) → 2 < check_status why
-check_late (check.Refused reason place) = omega arith
+check_late (check.Refused reason) = omega arith
 check_late check.Read = omega arith
 check_late check.Write = omega arith
 check_late check.Memory = omega arith

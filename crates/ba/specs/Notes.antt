@@ -4,6 +4,10 @@ use Rattle.std.specs.Fmt.{decimal}
 use Rattle.std.specs.List.{list_any}
 use Rattle.ba_check.specs.declared.checks.CheckFault.{CheckFault}
 use Rattle.ba_check.specs.declared.checks.CheckFault.TheVariants as check
+use Rattle.ba_soap.specs.declared.headers.SoapFault.{SoapFault}
+use Rattle.ba_soap.specs.declared.headers.SoapFault.TheVariants as soap
+use Rattle.ba_wire.specs.declared.faults.WireFault.{WireFault}
+use Rattle.ba_wire.specs.declared.faults.WireFault.TheVariants as wire
 use Rattle.ba_listing.specs.declared.journals.ListFault.{ListFault}
 use Rattle.ba_listing.specs.declared.journals.ListFault.TheVariants as list
 use Rattle.ba_replay.specs.declared.faults.ReplayFault.{ReplayFault}
@@ -41,8 +45,27 @@ reason_number reason.Depth = 5
 reason_number reason.Size = 6
 reason_number reason.Attributes = 7
 
+-- the numbers of the page on envelopes
+abbrev pub envelope_note : SoapFault → List ℕ
+envelope_note soap.Memory = codes "memory\n"
+envelope_note soap.VersionMismatch = codes "soap 11\n"
+envelope_note (soap.MustUnderstand block) = codes "soap 12\n"
+envelope_note soap.NoBody = codes "soap 13\n"
+envelope_note (soap.HeaderRequired header) = codes "soap 14\n"
+envelope_note (soap.InvalidHeader header) = codes "soap 15\n"
+envelope_note soap.Shape = codes "soap 17\n"
+
+abbrev pub message_note : WireFault → List ℕ
+message_note wire.Memory = codes "memory\n"
+message_note (wire.Xml why place) = counts_text (codes "xml ") (reason_number why) (codes " at ") place
+message_note (wire.Soap why) = envelope_note why
+message_note wire.OnlyAnonymous = codes "wire 16\n"
+message_note (wire.EprLimit element) = codes "wire 18\n"
+message_note wire.ActionNotSupported = codes "wire 21\n"
+message_note (wire.BodyMismatch element) = codes "wire 22\n"
+
 abbrev pub check_note : CheckFault → List ℕ
-check_note (check.Refused why place) = counts_text (codes "xml ") (reason_number why) (codes " at ") place
+check_note (check.Refused why) = message_note why
 check_note check.Read = codes "read\n"
 check_note check.Write = codes "write\n"
 check_note check.Memory = codes "memory\n"
@@ -75,7 +98,7 @@ replay_status replay.Memory = 6
 replay_status replay.TooManyLines = 7
 
 abbrev pub check_status : CheckFault → ℕ
-check_status (check.Refused why place) = 3
+check_status (check.Refused why) = 3
 check_status check.Read = 4
 check_status check.Write = 5
 check_status check.Memory = 6

@@ -1,6 +1,6 @@
 -- Believe: what `run` promises, by the command that the words ask for and by the fault that stopped it.
 use Rattle.std.specs.Prelude.{◌≡◌, ℕ, ◌+◌, List, Option, IfSome}
-use Rattle.ba_check.specs.Checks.{IsCanonicalText, StopsCheck}
+use Rattle.ba_check.specs.Checks.{IsReport, StopsCheck}
 use Rattle.ba_check.specs.declared.checks.TheConstants.{MOST_TEXT}
 use Rattle.ba_listing.specs.Journals.{IsListing, StopsListing}
 use Rattle.ba_listing.specs.declared.journals.TheConstants.{MOST_FILE}
@@ -16,7 +16,7 @@ use Rattle.ba.specs.declared.notes.RunFault.TheVariants as fault
 -- the whole output of a command on this input was written
 abbrev pub Does : Command → List ℕ → Option (List ℕ) → Option (List ℕ) → Type 0
 Does Replay input before now = PrintsPlay input before now
-Does Check input before now = WritesOne (IsCanonicalText input) before now
+Does Check input before now = WritesOne (IsReport input) before now
 Does Journal input before now = WritesOne (IsListing input) before now
 
 -- so many bytes are taken at most

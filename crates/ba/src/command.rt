@@ -8,7 +8,7 @@ ghost use Rattle.ba.specs.declared.command.Command.{Command};
 pub enum Command {
     /// Plays a script.
     Replay,
-    /// Reads one text of XML.
+    /// Reads one envelope.
     Check,
     /// Lists a journal's file.
     Journal,

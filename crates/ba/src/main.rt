@@ -1,4 +1,4 @@
-//! The program `ba`: it replays written schedules of a business activity, checks texts of XML, and lists
+//! The program `ba`: it replays written schedules of a business activity, checks envelopes, and lists
 //! journals. `main` hands in the real standard streams and the words of the command line, and nothing else.
 #![tactic(auto)]
 

@@ -1,8 +1,8 @@
 //! Why a run ended early: its status, and the note that it leaves, which takes no memory.
 ghost use Rattle.std.specs.Prelude.{◌≡◌, ◌≤◌, ◌++◌, OnOk, OnErr};
 ghost use Rattle.std.specs.Io.KnownBytes.{Appends};
-ghost use Rattle.ba.specs.Notes.{check_note, check_status, counted_text, counts_text, list_note, list_status, note_text};
-ghost use Rattle.ba.specs.Notes.{reason_number, replay_note, replay_status, status_of};
+ghost use Rattle.ba.specs.Notes.{check_note, check_status, counted_text, counts_text, envelope_note, list_note, list_status};
+ghost use Rattle.ba.specs.Notes.{message_note, note_text, reason_number, replay_note, replay_status, status_of};
 ghost use Rattle.ba_ports.specs.Outputs.{WritesPart};
 ghost use Rattle.ba_ports.specs.Whole.{FailsToWrite, WritesOrFails};
 
@@ -10,11 +10,13 @@ use ba_check::CheckFault;
 use ba_listing::ListFault;
 use ba_ports::{NotWritten, Sink, write_all};
 use ba_replay::ReplayFault;
+use ba_soap::SoapFault;
+use ba_wire::WireFault;
 use ba_xml::Reason;
 use itoa::Buffer;
 use thiserror::Error;
 
-/// Why a run ended early. Its text is the note.
+/// Why a run ended early.
 #[derive(Clone, Copy, Debug, PartialEq, Eq, Error)]
 pub enum RunFault {
     /// The words are no command line.
@@ -88,17 +90,47 @@ fn write_check_note<N: Sink>(fault: CheckFault, notes: &mut N) -> Result<(), Not
     ensures cause { OnErr result (FailsToWrite (N.faults notes.old) (N.faults notes.new) (N.took_nothing notes.new)) }
 {
     match fault {
-        CheckFault::Refused(reason, place) => write_counts(
+        CheckFault::Refused(why) => write_message_note(why, notes),
+        CheckFault::Read => write_all(notes, b"read\n"),
+        CheckFault::Write => write_all(notes, b"write\n"),
+        CheckFault::Memory => write_all(notes, b"memory\n"),
+        CheckFault::TooLong | CheckFault::Unwritable => write_all(notes, b"limit\n"),
+    }
+}
+
+fn write_message_note<N: Sink>(why: WireFault, notes: &mut N) -> Result<(), NotWritten>
+    ensures all { OnOk result (Appends (N.written notes.old) (N.written notes.new) (message_note why)) }
+    ensures part { OnErr result (WritesPart (N.written notes.old) (N.written notes.new) (message_note why)) }
+    ensures cause { OnErr result (FailsToWrite (N.faults notes.old) (N.faults notes.new) (N.took_nothing notes.new)) }
+{
+    match why {
+        WireFault::Xml { reason, place } => write_counts(
             b"xml ",
             reason_number(reason),
             b" at ",
             place,
             notes,
         ),
-        CheckFault::Read => write_all(notes, b"read\n"),
-        CheckFault::Write => write_all(notes, b"write\n"),
-        CheckFault::Memory => write_all(notes, b"memory\n"),
-        CheckFault::TooLong | CheckFault::Unwritable => write_all(notes, b"limit\n"),
+        WireFault::Soap(why) => write_all(notes, envelope_note(why)),
+        WireFault::OnlyAnonymous => write_all(notes, b"wire 16\n"),
+        WireFault::EprLimit(_) => write_all(notes, b"wire 18\n"),
+        WireFault::ActionNotSupported => write_all(notes, b"wire 21\n"),
+        WireFault::BodyMismatch(_) => write_all(notes, b"wire 22\n"),
+        WireFault::Memory => write_all(notes, b"memory\n"),
+    }
+}
+
+fn envelope_note(why: SoapFault) -> &'static [u8]
+    ensures { result.now ≡ envelope_note why }
+{
+    match why {
+        SoapFault::VersionMismatch => b"soap 11\n",
+        SoapFault::MustUnderstand(_) => b"soap 12\n",
+        SoapFault::NoBody => b"soap 13\n",
+        SoapFault::HeaderRequired(_) => b"soap 14\n",
+        SoapFault::InvalidHeader(_) => b"soap 15\n",
+        SoapFault::Shape => b"soap 17\n",
+        SoapFault::Memory => b"memory\n",
     }
 }
 
@@ -197,7 +229,7 @@ fn check_status(fault: CheckFault) -> u8
     ensures { result ≡ check_status fault }
 {
     match fault {
-        CheckFault::Refused(_, _) => 3,
+        CheckFault::Refused(_) => 3,
         CheckFault::Read => 4,
         CheckFault::Write => 5,
         CheckFault::Memory => 6,

@@ -17,8 +17,8 @@ use ba_replay::replay;
 use std::alloc::Global;
 
 /// Does what the words ask for, and returns the status of the program: `replay` reads a script of a pair from
-/// the source, plays it, and writes the line of each event to the sink; `check` reads one text of XML, and
-/// writes the canonical text of its tree; `journal` reads a journal's file, and writes its listing.
+/// the source, plays it, and writes the line of each event to the sink; `check` reads one envelope, and writes
+/// the report of its message; `journal` reads a journal's file, and writes its listing.
 /// Unless the status is 0, a note that says why goes to `notes`, whose faults are ignored.
 pub fn run<S: Source, K: Sink, N: Sink>(
     alloc: Global,

@@ -10,6 +10,22 @@ use std::test::Fail;
 const JOURNAL: &[u8] =
     b"\x01BAJOURNAL\x01\0\0\0\0\0\x01\x13\0\0\0\x01\x01\0\0\0\x0c\0http://node1\0";
 
+// An envelope, and what is printed of it.
+const CLOSE: &[u8] = b"<s:Envelope xmlns:s='http://schemas.xmlsoap.org/soap/envelope/'><s:Header>\
+<Action xmlns='http://www.w3.org/2005/08/addressing'> http://docs.oasis-open.org/ws-tx/wsba/2006/06/Close\n</Action></s:Header>\
+<s:Body><Close xmlns='http://docs.oasis-open.org/ws-tx/wsba/2006/06'/></s:Body></s:Envelope>";
+
+const CLOSED: &[u8] = b"message Close\n\
+<soap:Envelope xmlns:soap=\"http://schemas.xmlsoap.org/soap/envelope/\" \
+xmlns:wsa=\"http://www.w3.org/2005/08/addressing\" \
+xmlns:wscoor=\"http://docs.oasis-open.org/ws-tx/wscoor/2006/06\" \
+xmlns:wsba=\"http://docs.oasis-open.org/ws-tx/wsba/2006/06\"><soap:Header><wsa:Action>\
+http://docs.oasis-open.org/ws-tx/wsba/2006/06/Close</wsa:Action></soap:Header>\
+<soap:Body><wsba:Close/></soap:Body></soap:Envelope>\n";
+// No message has this action.
+const UNKNOWN: &[u8] = b"<s:Envelope xmlns:s='http://schemas.xmlsoap.org/soap/envelope/'><s:Header>\
+<Action xmlns='http://www.w3.org/2005/08/addressing'>urn:action</Action></s:Header><s:Body><a/></s:Body></s:Envelope>";
+
 // Words and input; a read and a write that fail, 0 where none does; the status, the output and the note.
 type Row = (
     &'static [&'static str],
@@ -21,7 +37,7 @@ type Row = (
     &'static [u8],
 );
 
-const ROWS: [Row; 14] = [
+const ROWS: [Row; 17] = [
     (&[], b"", 0, 0, 2, b"", b"usage\n"),
     (&["replay", "replay"], b"", 0, 0, 2, b"", b"usage\n"),
     (
@@ -54,8 +70,11 @@ const ROWS: [Row; 14] = [
     (&["replay"], b"act exit\n", 1, 0, 4, b"", b"read\n"),
     (&["replay"], b"act exit\n", 0, 1, 5, b"", b"write\n"),
     (&["check"], b"<a></b>", 0, 0, 3, b"", b"xml 2 at 5\n"),
-    (&["check"], b"<a/>", 1, 0, 4, b"", b"read\n"),
-    (&["check"], b"<a/>", 0, 1, 5, b"", b"write\n"),
+    (&["check"], b"<a/>", 0, 0, 3, b"", b"soap 17\n"),
+    (&["check"], UNKNOWN, 0, 0, 3, b"", b"wire 21\n"),
+    (&["check"], CLOSE, 0, 0, 0, CLOSED, b""),
+    (&["check"], CLOSE, 1, 0, 4, b"", b"read\n"),
+    (&["check"], CLOSE, 0, 1, 5, b"", b"write\n"),
     (
         &["journal"],
         JOURNAL,

@@ -1,25 +1,28 @@
-//! Reads one text of XML, and prints the canonical text of its tree.
-ghost use Rattle.std.specs.Prelude.{◌≡◌, ◌+◌, ◌≤◌, ◌++◌, length, IfOk, IfErr, IfSome, OnOk, Err, codes};
+//! Reads one envelope, and prints the name of its message and the canonical text of what it says.
+ghost use Rattle.std.specs.Prelude.{◌≡◌, ◌+◌, ◌≤◌, ◌++◌, length, IfOk, IfErr, IfSome, OnOk, OnErr, Err, IsTrue, codes};
 ghost use Rattle.std.specs.Io.KnownBytes.{IsAtEnd, Keeps};
-ghost use Rattle.ba_check.specs.Checks.{IsCanonicalText, StopsCheck};
-ghost use Rattle.ba_check.specs.inside.Printing.{HasNoCanonicalText, HasNoText, StopsPrint};
+ghost use Rattle.ba_check.specs.Checks.{IsReport, MayBePrinted, StopsCheck, first_line, report_of};
+ghost use Rattle.ba_check.specs.inside.Printing.{HasNoLines, HasNoReport, HasNoText, StopsPrint};
 ghost use Rattle.ba_ports.specs.Causes.{Rose};
 ghost use Rattle.ba_ports.specs.Inputs.{TakesAtMost};
 ghost use Rattle.ba_ports.specs.Whole.{FailsToWrite, WritesOne};
+ghost use Rattle.ba_wire.specs.Envelopes.{HasEnvelope, envelope_text, envelope_tree, is_known};
 ghost use Rattle.ba_xml_writer.specs.OneText.{one_text};
 ghost use Rattle.ba_xml_writer.specs.Writable.{IsWritable};
 
-use ba_core::{Memory, Octets};
+use ba_core::{List, Memory, Octets};
+use ba_message::Message;
 use ba_ports::{InputFault, NotWritten, Sink, Source, read_up_to, write_all};
 use ba_tree::Tree;
-use ba_xml::{Reason, XmlFault, read, writable, write};
+use ba_wire::{Decoded, WireFault, decode, envelope_tree, is_known, message_name};
+use ba_xml::{writable, write};
 use std::alloc::Global;
 use thiserror::Error;
 
 /// A text that is checked has this many bytes at most.
 pub const MOST_TEXT: usize = 262_144;
 
-/// Why a check ended early. Its text is the note of a command that ended so.
+/// Why a check ended early.
 #[derive(Clone, Copy, Debug, PartialEq, Eq, Error)]
 pub enum CheckFault {
     #[error("memory")]
@@ -31,22 +34,34 @@ pub enum CheckFault {
     /// The input is longer than a text may be.
     #[error("limit")]
     TooLong,
-    /// The canonical text of the input's tree goes past the limits of texts.
+    /// The canonical text of what the input says goes past the limits of texts.
     #[error("limit")]
     Unwritable,
-    /// The input is no text of XML, for this reason at this place.
-    #[error("xml {} at {}", *.0 as u8, .1)]
-    Refused(Reason, u64),
+    /// The input is no message, for this reason.
+    #[error("{0}")]
+    Refused(WireFault),
 }
 
-/// Reads one text, and prints the canonical text of its tree and a line feed. Input past the limit isn't looked at.
+impl From<Memory> for CheckFault {
+    ghost use Rattle.std.specs.Prelude.{◌≡◌};
+    ghost use Rattle.ba_check.specs.declared.checks.CheckFault.TheVariants as fault;
+
+    ghost from_gives = { λ _ e. e ≡ fault.Memory };
+
+    fn from(_e: Memory) -> CheckFault {
+        CheckFault::Memory
+    }
+}
+
+/// Reads one envelope, and prints the name of its message and, where the message names nothing that this project doesn't
+/// know, the canonical text of what the envelope says, each on a line. Input past the limit isn't looked at.
 pub fn check<S: Source, K: Sink>(
     alloc: Global,
     source: &mut S,
     sink: &mut K,
 ) -> Result<(), CheckFault>
     ensures done { OnOk result (IfSome (S.left source.old)
-        (λ input. WritesOne (IsCanonicalText input) (K.written sink.old) (K.written sink.new))) }
+        (λ input. WritesOne (IsReport input) (K.written sink.old) (K.written sink.new))) }
     ensures end { OnOk result (IsAtEnd (S.left source.new)) }
     ensures stops { IfErr result (λ fault. IfSome (S.left source.old)
         (λ input. StopsCheck input (S.left source.new) (K.written sink.old) (K.written sink.new) fault)) }
@@ -56,21 +71,21 @@ pub fn check<S: Source, K: Sink>(
     ensures bounded { TakesAtMost (S.left source.old) (S.left source.new) (MOST_TEXT + 1) }
 {
     match read_up_to(alloc, source, MOST_TEXT) {
-        Ok(input) => print_canonical(alloc, input.as_slice(), sink),
+        Ok(input) => print_report(alloc, input.as_slice(), sink),
         Err(InputFault::Memory) => Err(CheckFault::Memory),
         Err(InputFault::Read) => Err(CheckFault::Read),
         Err(InputFault::Limit) => Err(CheckFault::TooLong),
     }
 }
 
-// Prints the canonical text of the tree that the bytes mean, and a line feed.
-fn print_canonical<K: Sink>(alloc: Global, bytes: &[u8], sink: &mut K) -> Result<(), CheckFault>
-    ensures done { OnOk result (WritesOne (IsCanonicalText bytes.now) (K.written sink.old) (K.written sink.new)) }
+// Prints the report of the message that the bytes mean.
+fn print_report<K: Sink>(alloc: Global, bytes: &[u8], sink: &mut K) -> Result<(), CheckFault>
+    ensures done { OnOk result (WritesOne (IsReport bytes.now) (K.written sink.old) (K.written sink.new)) }
     ensures stops { IfErr result (StopsPrint bytes.now (K.written sink.old) (K.written sink.new)) }
     ensures write { (result ≡ Err CheckFault.Write) → FailsToWrite (K.faults sink.old) (K.faults sink.new) (K.took_nothing sink.new) }
 {
-    match canonical(alloc, bytes) {
-        Ok(text) => match write_all(sink, text.as_slice()) {
+    match report(alloc, bytes) {
+        Ok(report) => match write_all(sink, report.as_slice()) {
             Ok(()) => Ok(()),
             Err(NotWritten) => Err(CheckFault::Write),
         },
@@ -78,39 +93,73 @@ fn print_canonical<K: Sink>(alloc: Global, bytes: &[u8], sink: &mut K) -> Result
     }
 }
 
-// The canonical text of the tree that the bytes mean, and a line feed.
-fn canonical(alloc: Global, bytes: &[u8]) -> Result<Octets, CheckFault>
-    ensures text { IfOk result (IsCanonicalText bytes.now) }
-    ensures fault { IfErr result (HasNoCanonicalText bytes.now) }
+// The report of the message that the bytes mean.
+fn report(alloc: Global, bytes: &[u8]) -> Result<Octets, CheckFault>
+    ensures report { IfOk result (IsReport bytes.now) }
+    ensures fault { IfErr result (HasNoReport bytes.now) }
 {
-    match read(alloc, bytes) {
-        Ok(tree) => text_of(alloc, &tree),
-        Err(XmlFault::Memory) => Err(CheckFault::Memory),
-        Err(XmlFault::At { reason, place }) => Err(CheckFault::Refused(reason, place)),
+    match decode(alloc, bytes) {
+        Ok(decoded) => report_of(alloc, &decoded),
+        Err(WireFault::Memory) => Err(CheckFault::Memory),
+        Err(fault) => Err(CheckFault::Refused(fault)),
     }
 }
 
-// The canonical text of a tree and a line feed, where the tree keeps to the limits of texts.
-fn text_of(alloc: Global, tree: &Tree) -> Result<Octets, CheckFault>
+// The report of a message.
+fn report_of(alloc: Global, decoded: &Decoded) -> Result<Octets, CheckFault>
+    requires { IsTrue (is_known decoded.now.message) → HasEnvelope decoded.now.route decoded.now.message }
+    ensures report { IfOk result (λ report. report ≡ report_of decoded.now) }
+    ensures writable { OnOk result (MayBePrinted decoded.now) }
+    ensures fault { IfErr result (HasNoLines decoded.now) }
+{
+    let mut report = first_line(alloc, &decoded.message)?;
+    if is_known(&decoded.message) {
+        append_text(alloc, decoded, &mut report)?;
+    }
+    Ok(report)
+}
+
+fn first_line(alloc: Global, message: &Message) -> Result<Octets, Memory>
+    ensures { IfOk result (λ line. line ≡ first_line message.now) }
+{
+    let mut line = List::new(alloc);
+    line.append(b"message ")?;
+    line.append(message_name(message))?;
+    line.append(b"\n")?;
+    Ok(line)
+}
+
+// Appends the canonical text of a message in its envelope and a line feed, where it keeps to the limits of texts.
+fn append_text(alloc: Global, decoded: &Decoded, report: &mut Octets) -> Result<(), CheckFault>
+    requires { HasEnvelope decoded.now.route decoded.now.message }
+    ensures text { OnOk result (report.new ≡ report.old ++ (envelope_text decoded.now.route decoded.now.message ++ codes "\n")) }
+    ensures writable { OnOk result (IsWritable (envelope_tree decoded.now.route decoded.now.message)) }
+    ensures fault { IfErr result (HasNoText (envelope_tree decoded.now.route decoded.now.message)) }
+{
+    let tree = envelope_tree(alloc, &decoded.route, &decoded.message)?;
+    append_tree(alloc, &tree, report)
+}
+
+// Appends the canonical text of a tree and a line feed, where it keeps to the limits of texts.
+fn append_tree(alloc: Global, tree: &Tree, report: &mut Octets) -> Result<(), CheckFault>
+    ensures text { OnOk result (report.new ≡ report.old ++ (one_text tree.now ++ codes "\n")) }
     ensures writable { OnOk result (IsWritable tree.now) }
-    ensures text { IfOk result (λ text. text ≡ one_text tree.now ++ codes "\n") }
     ensures fault { IfErr result (HasNoText tree.now) }
 {
     if !writable(tree) {
         return Err(CheckFault::Unwritable);
     }
-    match line_of(alloc, tree) {
-        Ok(line) => Ok(line),
+    match append_line(alloc, tree, report) {
+        Ok(()) => Ok(()),
         Err(Memory) => Err(CheckFault::Memory),
     }
 }
 
-// The canonical text of a tree and a line feed.
-fn line_of(alloc: Global, tree: &Tree) -> Result<Octets, Memory>
-    ensures { IfOk result (λ line. line ≡ one_text tree.now ++ codes "\n") }
+// Appends the canonical text of a tree and a line feed.
+fn append_line(alloc: Global, tree: &Tree, report: &mut Octets) -> Result<(), Memory>
+    ensures { OnOk result (report.new ≡ report.old ++ (one_text tree.now ++ codes "\n")) }
 {
-    let mut line = Octets::new(alloc);
-    write(alloc, tree, &mut line)?;
-    line.append(b"\n")?;
-    Ok(line)
+    write(alloc, tree, report)?;
+    report.append(b"\n")?;
+    Ok(())
 }

@@ -1,4 +1,4 @@
-//! The command that checks a text of XML.
+//! The command that checks an envelope.
 #![tactic(auto)]
 
 mod checks;

@@ -1,9 +1,9 @@
 -- A message that was read and is known has an envelope: for the law on what was read.
-use Rattle.std.proofs.Common.{◌≡◌, true, Option, Some, None, Result, Ok, Err, refl, subst}
+use Rattle.std.proofs.Common.{◌≡◌, ℕ, true, List, Option, Some, None, Result, Ok, Err, refl, subst}
 use Rattle.ba_shape.specs.declared.shapes.Misfit.{Misfit}
 use Rattle.ba_soap.specs.declared.headers.Envelope.{Envelope}
 use Rattle.ba_soap.specs.declared.headers.SoapFault.{SoapFault}
-use Rattle.ba_soap.specs.Envelopes.{Dialect, envelope_answer}
+use Rattle.ba_soap.specs.Envelopes.{Dialect, envelope_answer, soap11}
 use Rattle.ba_tree.specs.declared.trees.Tree.{Tree}
 use Rattle.ba_wire.specs.declared.bodies.Body.{Body}
 use Rattle.ba_wire.specs.declared.faults.WireFault.{WireFault}
@@ -12,6 +12,7 @@ use Rattle.ba_wire.specs.Bodies.{body_look}
 use Rattle.ba_wire.specs.Envelopes.{CanEncode, HasEnvelope, envelope_tree, is_known}
 use Rattle.ba_wire.specs.Meaning.{Means, answer_by_envelope, answer_by_reply, answer_by_shape, answer_of_body, reply_refusal}
 use Rattle.ba_wire.specs.Meaning.{which_body}
+use Rattle.ba_xml_grammar.specs.GrammarTexts.{IsXmlText}
 use Rattle.ba_xml_writer.specs.Writable.{IsWritable}
 use Rattle.ba_post.proofs.ReadBodies.{body_is_read}
 use Rattle.ba_post.proofs.ReadHeaders.{IsReadAnswer, IsReadEnvelope, envelope_is_read}
@@ -53,6 +54,13 @@ by_envelope d (Ok e) is = of_body (which_body d e) e is
 pub has_envelope : (d : Dialect) (t : Tree) (m : Decoded) → Means d t m → is_known m.message ≡ true
     → HasEnvelope m.route m.message
 has_envelope d t m means = subst IsWellRead means (by_envelope d (envelope_answer d t) (envelope_is_read d t))
+
+-- that a text means a message, as the clause `means` of `decode` says it
+abbrev pub IsDecoded : List ℕ → Decoded → Type 0
+IsDecoded text m = (t : Tree) × IsXmlText text t × Means soap11 t m
+
+pub decoded_has_envelope : (text : List ℕ) (m : Decoded) → IsDecoded text m → is_known m.message ≡ true → HasEnvelope m.route m.message
+decoded_has_envelope text m is known = has_envelope soap11 is.0 m is.2 known
 
 pub can_encode : (d : Dialect) (t : Tree) (m : Decoded) → Means d t m → is_known m.message ≡ true
     → IsWritable (envelope_tree m.route m.message) → CanEncode m.route m.message

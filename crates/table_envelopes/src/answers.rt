@@ -1,24 +1,72 @@
-//! The answers to rows: what envelopes mean, and why they are refused.
+//! The answers to rows: what envelopes mean, why they are refused, and what is written of them.
+ghost use Rattle.std.specs.Prelude.{IsTrue};
+ghost use Rattle.ba_wire.specs.Envelopes.{HasEnvelope, is_known};
 
 use crate::rows::envelope_bytes;
 use crate::shown::{
     put_bytes, put_context, put_endpoint, put_expiry, put_kind, put_named, put_trees,
 };
-use ba_core::{Kind, Notice, Protocol, name_of};
+use ba_core::{Kind, List, Notice, Protocol, name_of};
 use ba_message::{Context, Message};
 use ba_soap::{Header, SoapFault};
-use ba_wire::{Decoded, Route, WireFault, decode};
+use ba_tree::Tree;
+use ba_wire::{Decoded, Route, WireFault, decode, envelope_tree, is_known};
+use ba_xml::{writable, write};
 use std::alloc::{AllocError, Global};
 
 /// The answer to a row.
 pub fn answer(alloc: Global, row: &str) -> Result<String, AllocError> {
-    let bytes = envelope_bytes(alloc, row)?;
+    match row.strip_prefix("text: ") {
+        None => meaning(alloc, envelope_bytes(alloc, row)?.as_slice()),
+        Some(envelope) => canonical(alloc, envelope_bytes(alloc, envelope)?.as_slice()),
+    }
+}
+
+/// What an envelope means, or why it is refused.
+fn meaning(alloc: Global, bytes: &[u8]) -> Result<String, AllocError> {
     let mut out = String::new(alloc);
-    match decode(alloc, bytes.as_slice()) {
+    match decode(alloc, bytes) {
         Err(fault) => put_wire_fault(fault, &mut out)?,
         Ok(decoded) => put_decoded(&decoded, &mut out)?,
     }
     Ok(out)
+}
+
+/// The canonical text of what an envelope means, or why it is refused.
+fn canonical(alloc: Global, bytes: &[u8]) -> Result<String, AllocError> {
+    let mut out = String::new(alloc);
+    match decode(alloc, bytes) {
+        Err(fault) => put_wire_fault(fault, &mut out)?,
+        Ok(decoded) => put_canonical(alloc, &decoded, &mut out)?,
+    }
+    Ok(out)
+}
+
+// ---- what is written
+
+/// Appends the canonical text of a message in its envelope, or why there is none.
+fn put_canonical(alloc: Global, decoded: &Decoded, out: &mut String) -> Result<(), AllocError>
+    requires { IsTrue (is_known decoded.now.message) → HasEnvelope decoded.now.route decoded.now.message }
+{
+    if !is_known(&decoded.message) {
+        return out.push_str("unknown");
+    }
+    match envelope_tree(alloc, &decoded.route, &decoded.message) {
+        Err(_) => Err(AllocError),
+        Ok(tree) => put_text_of(alloc, &tree, out),
+    }
+}
+
+/// Appends the canonical text of a tree, or that it is past the limits.
+fn put_text_of(alloc: Global, tree: &Tree, out: &mut String) -> Result<(), AllocError> {
+    if !writable(tree) {
+        return out.push_str("unwritable");
+    }
+    let mut text = List::new(alloc);
+    match write(alloc, tree, &mut text) {
+        Err(_) => Err(AllocError),
+        Ok(()) => put_bytes(text.as_slice(), out),
+    }
 }
 
 // ---- what an envelope means

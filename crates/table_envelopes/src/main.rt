@@ -6,6 +6,8 @@
 //!   prefixes `s`, `w`, `c`, `b` and `o` are declared, for the namespaces that rows name `soap`, `wsa`, `wscoor`,
 //!   `wsba` and `own`;
 //! - `parts: CONTENT`, which stands for an envelope of this content, with the same prefixes;
+//! - `text: ` and one of these. The answer is the canonical text of what it means; `unknown` where it names what isn't
+//!   known; `unwritable` where that text would go past the limits; or the refusal;
 //! - `# ` and a heading, which has no answer.
 //!
 //! What an envelope means is the name of its message; the texts of To, MessageID and RelatesTo and the reference
