@@ -62,6 +62,11 @@ remaining_fault old new all past left fault which =
       | inr read ↦ subst (λ f. RemainingSo old new all past left (Err f)) (sym read) tt
     ]
 
+-- there are too many
+pub too_many_so : (old new : List ℕ → Type 0) (all : List ℕ) (past : ℕ) (left : Option (List ℕ)) → past ≤ length all
+    → RemainingSo old new all past left (Err TooLarge)
+too_many_so old new all past left many = many
+
 -- all that was at hand, and then what was read
 module _ (hand taken : List ℕ) (past : ℕ) (within : length hand < past) where
   pub stops_after_all : StopsAt [] (past - length hand) taken → StopsAt hand past taken

@@ -10,7 +10,7 @@ use Rattle.ba_http_body.specs.declared.size_lines.Place.TheVariants.{First, Digi
 use Rattle.ba_http_body.specs.SizeLines.{SizeLine, IsSizeLine, print_size_line, MayBecomeSizeLine}
 use Rattle.ba_http_body.specs.inside.Places.{HasRead}
 
-pub walk : Place → List ℕ → Bool
+unfoldable pub walk : Place → List ℕ → Bool
 walk First [] = false
 walk First (b ∷ bs) = cond (is_ascii_hexdigit b) (walk Digits bs) false
 walk Digits [] = false
@@ -33,7 +33,7 @@ space_cases b is = other (nat_eq b 32) refl
     other true h = inl (eqb-true b 32 h)
     other false h = inr (eqb-true b 9 (sym (ap (λ t. t || nat_eq b 9) h) ∙ is))
 
-space_no_digit : (b : ℕ) → is_ows b ≡ true → is_ascii_hexdigit b ≡ false
+pub space_no_digit : (b : ℕ) → is_ows b ≡ true → is_ascii_hexdigit b ≡ false
 space_no_digit b is = elim (space_cases b is) [
   | inl h ↦ subst (λ v. is_ascii_hexdigit v ≡ false) (sym h) refl
   | inr h ↦ subst (λ v. is_ascii_hexdigit v ≡ false) (sym h) refl

@@ -1,6 +1,6 @@
 use Rattle.std.proofs.Common.{◌<◌, [], ◌++◌, length, length-append, arith, refl, inl, rules}
 use Rattle.std.proofs.KnownBytes.{Consumes-trans, Consumes-nil, Keeps-refl, Keeps-trans}
-use Rattle.ba_http_body.proofs.Counting.{given_on, given_none, given_all, stops_on, remaining_fault}
+use Rattle.ba_http_body.proofs.Counting.{given_on, given_none, given_all, stops_on, remaining_fault, too_many_so}
 use Rattle.ba_http_body.proofs.remaining_bodies.remaining_by.Goals as goal
 
 pub reading-init : goal.reading-init
@@ -43,8 +43,13 @@ reading-smaller g c = omega (arith, c.saturating_sub-left.ensures, c.reading-tes
 
 pub returns-clause-body : goal.returns-clause-body
 returns-clause-body g c =
-    let h = c.reading.invariant.taken in
-    (h.0, h.1, h.3, omega (arith, c.reading-test.false, h.2))
+    let h = c.reading.invariant.taken in (
+      h.0,
+      h.1,
+      h.3,
+      too_many_so (g.T.Taker.stands c.args.taker.now) (g.T.Taker.stands c.reading.taker) h.0 c.args.past (g.K.Link.left c.reading.link)
+          (omega (arith, c.reading-test.false, h.2)),
+    )
 
 pub returns-in-Ok-eq0-clause-body : goal.returns-in-Ok-eq0-clause-body
 returns-in-Ok-eq0-clause-body g c =

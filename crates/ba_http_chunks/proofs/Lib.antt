@@ -1,0 +1,10 @@
+pub mod Blocks
+pub mod Composing
+pub mod Feeding
+pub mod Leading
+pub mod LinesGoOn
+pub mod Passes
+pub mod PlaceSteps
+pub mod Sights
+pub mod Standing
+pub mod TrailerSteps
