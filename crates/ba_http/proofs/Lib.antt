@@ -1,0 +1,4 @@
+pub mod AfterHead
+pub mod OneMessage
+pub mod Taken
+pub mod WholeMessages
