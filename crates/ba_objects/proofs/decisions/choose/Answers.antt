@@ -1,0 +1,35 @@
+use Rattle.std.proofs.Common.{◌∙◌}
+use Rattle.ba_objects.specs.Changes.{node_of}
+use Rattle.ba_objects.proofs.Planned.{choice_done, choice_refused, chosen_nowhere, nothing_suits, scope_suits}
+use Rattle.ba_steps.specs.Node.{NodeState}
+use Rattle.ba_objects.proofs.decisions.choose.Goals as goal
+
+pub returns-in_default : goal.returns-in_default
+returns-in_default c =
+    let n : NodeState = node_of c.args.node.now in
+    record {
+      step = c.refused.ensures.step n ∙ chosen_nowhere n c.args.id c.args.verdict c.in_default.ensures.none;
+      suits = nothing_suits n c.refused.result.change c.refused.ensures.change;
+    }
+
+pub returns-in-No : goal.returns-in-No
+returns-in-No c =
+    let n : NodeState = node_of c.args.node.now in
+    let found = c.in-Some.found in
+    record {
+      step = c.refused-in-No.ensures.step n
+          ∙ choice_refused n c.args.id c.args.verdict found.place found.scope.now found.end.now c.in-No.number c.in-No.shown
+          c.in-Some.ensures.some c.in-No.ensures;
+      suits = nothing_suits n c.refused-in-No.result.change c.refused-in-No.ensures.change;
+    }
+
+pub returns-in-Ok : goal.returns-in-Ok
+returns-in-Ok c =
+    let n : NodeState = node_of c.args.node.now in
+    let found = c.in-Some.found in
+    record {
+      step = (rw (c.counter.ensures, c.number_of_choice.ensures, c.wake_by_choice.ensures) at (c.kept.ensures.step n))
+          ∙ choice_done n c.args.id c.args.verdict found.place found.scope.now found.end.now c.requires c.in-Some.ensures.some
+          c.in-Ok.ensures;
+      suits = scope_suits n found.place found.scope.now _ c.kept.result.change c.in-Some.ensures.some.at tt c.kept.ensures.change;
+    }

@@ -1,0 +1,7 @@
+use Rattle.std.proofs.Common.{sym, subst}
+use Rattle.ba_steps.proofs.StepsFit.{new_fits}
+use Rattle.ba_steps.specs.Fits.{NodeFits}
+use Rattle.ba_objects.proofs.objects.Objects.new.Goals as goal
+
+pub invariant_of-result : goal.invariant_of-result
+invariant_of-result c = subst NodeFits (sym c.empty.ensures) (new_fits c.args.number c.args.base)

@@ -1,0 +1,185 @@
+//! Where an object of a node stands.
+ghost use Rattle.std.specs.Prelude.{◌≡◌, ◌<◌, IfSome, IfNone, None, is_some, length, position};
+ghost use Rattle.std.specs.List.{find};
+ghost use Rattle.std.specs.Option.{option_map};
+ghost use Rattle.ba_objects.specs.Changes.{node_of};
+ghost use Rattle.ba_objects.specs.inside.Finds.{FindsEnd, FindsLone, FindsScope, FindsUp};
+ghost use Rattle.ba_scope.specs.Scope.{end_with_id, is_id_above, same_id};
+ghost use Rattle.ba_steps.specs.Fits.{NodeFits};
+ghost use Rattle.ba_steps.specs.Node.{end_place, nowhere, part_place, scope_with_id};
+
+use crate::fields::Fields;
+use ba_core::Id;
+use ba_scope::{End, Part, Scope};
+
+/// A scope, and its place.
+#[derive(Drop)]
+pub(crate) struct FoundScope<'a> {
+    pub place: usize,
+    pub scope: &'a Scope,
+}
+
+/// An end, and its scope with its place.
+#[derive(Drop)]
+pub(crate) struct FoundEnd<'a> {
+    pub place: usize,
+    pub scope: &'a Scope,
+    pub end: &'a End,
+}
+
+/// A lone participant, and its place.
+#[derive(Drop)]
+pub(crate) struct FoundLone<'a> {
+    pub place: usize,
+    pub part: &'a Part,
+}
+
+/// A scope's own participant, and the scope with its place.
+#[derive(Drop)]
+pub(crate) struct FoundUp<'a> {
+    pub place: usize,
+    pub scope: &'a Scope,
+    pub part: &'a Part,
+}
+
+/// The scope with this identifier.
+pub(crate) fn find_scope<'a>(node: &'a Fields, id: Id) -> Option<FoundScope<'a>>
+    requires { NodeFits (node_of node.now) }
+    ensures some { IfSome result (λ f. FindsScope (node_of node.now) id f.place f.scope.now) }
+    ensures none { IfNone result (scope_with_id (node_of node.now) id ≡ None) }
+{
+    match place_of_scope(&node.scopes, id) {
+        None => None,
+        Some(place) => Some(FoundScope {
+            place,
+            scope: &node.scopes[place],
+        }),
+    }
+}
+
+fn place_of_scope(scopes: &[Scope], id: Id) -> Option<usize>
+    ensures place { result ≡ position (λ s. same_id s.id id) scopes.now }
+    ensures within { IfSome result (λ k. k < length scopes.now) }
+{
+    position_of_scope(scopes, id)
+}
+
+fn position_of_scope(scopes: &[Scope], id: Id) -> Option<usize>
+    ensures { result ≡ position (λ s. same_id s.id id) scopes.now }
+{
+    scopes.iter().position(|scope| scope.id() == id)
+}
+
+/// The end with this identifier.
+pub(crate) fn find_end<'a>(node: &'a Fields, id: Id) -> Option<FoundEnd<'a>>
+    requires { NodeFits (node_of node.now) }
+    ensures some { IfSome result (λ f. FindsEnd (node_of node.now) id f.place f.scope.now f.end.now) }
+    ensures none { IfNone result (end_place (node_of node.now) id ≡ None) }
+{
+    match place_with_end(&node.scopes, id) {
+        None => None,
+        Some(place) => {
+            let scope = &node.scopes[place];
+            match end_in(scope, id) {
+                None => None,
+                Some(end) => Some(FoundEnd { place, scope, end }),
+            }
+        }
+    }
+}
+
+// The place of the scope that has an end with this identifier.
+fn place_with_end(scopes: &[Scope], id: Id) -> Option<usize>
+    ensures place { result ≡ position (λ s. is_some (end_with_id s.ends id)) scopes.now }
+    ensures within { IfSome result (λ k. k < length scopes.now) }
+{
+    position_with_end(scopes, id)
+}
+
+fn position_with_end(scopes: &[Scope], id: Id) -> Option<usize>
+    ensures { result ≡ position (λ s. is_some (end_with_id s.ends id)) scopes.now }
+{
+    scopes.iter().position(|scope| has_end(scope, id))
+}
+
+fn has_end(scope: &Scope, id: Id) -> bool
+    ensures { result ≡ is_some (end_with_id scope.now.ends id) }
+{
+    end_in(scope, id).is_some()
+}
+
+fn end_in<'a>(scope: &'a Scope, id: Id) -> Option<&'a End>
+    ensures { option_map (λ e. e.now) result ≡ end_with_id scope.now.ends id }
+{
+    scope.ends().iter().find(|end| end.id == id)
+}
+
+/// The lone participant with this identifier.
+pub(crate) fn find_lone<'a>(node: &'a Fields, id: Id) -> Option<FoundLone<'a>>
+    requires { NodeFits (node_of node.now) }
+    ensures some { IfSome result (λ f. FindsLone (node_of node.now) id f.place f.part.now) }
+    ensures none { IfNone result (find (λ p. same_id p.id id) (node_of node.now).parts ≡ None) }
+{
+    match place_of_lone(&node.parts, id) {
+        None => None,
+        Some(place) => Some(FoundLone {
+            place,
+            part: &node.parts[place],
+        }),
+    }
+}
+
+fn place_of_lone(parts: &[Part], id: Id) -> Option<usize>
+    ensures place { result ≡ position (λ p. same_id p.id id) parts.now }
+    ensures within { IfSome result (λ k. k < length parts.now) }
+{
+    position_of_lone(parts, id)
+}
+
+fn position_of_lone(parts: &[Part], id: Id) -> Option<usize>
+    ensures { result ≡ position (λ p. same_id p.id id) parts.now }
+{
+    parts.iter().position(|part| part.id == id)
+}
+
+/// The scope's own participant with this identifier, which no lone participant has.
+pub(crate) fn find_up<'a>(node: &'a Fields, id: Id) -> Option<FoundUp<'a>>
+    requires fits { NodeFits (node_of node.now) }
+    requires alone { find (λ p. same_id p.id id) (node_of node.now).parts ≡ None }
+    ensures some { IfSome result (λ f. FindsUp (node_of node.now) id f.place f.scope.now f.part.now) }
+    ensures none { IfNone result (part_place (node_of node.now) id ≡ nowhere) }
+{
+    match place_below(&node.scopes, id) {
+        None => None,
+        Some(place) => {
+            let scope = &node.scopes[place];
+            match scope.up() {
+                None => None,
+                Some(part) => Some(FoundUp { place, scope, part }),
+            }
+        }
+    }
+}
+
+// The place of the scope whose own participant has this identifier.
+fn place_below(scopes: &[Scope], id: Id) -> Option<usize>
+    ensures place { result ≡ position (λ s. is_id_above s.up id) scopes.now }
+    ensures within { IfSome result (λ k. k < length scopes.now) }
+{
+    position_below(scopes, id)
+}
+
+fn position_below(scopes: &[Scope], id: Id) -> Option<usize>
+    ensures { result ≡ position (λ s. is_id_above s.up id) scopes.now }
+{
+    scopes.iter().position(|scope| has_up(scope, id))
+}
+
+fn has_up(scope: &Scope, id: Id) -> bool
+    ensures { result ≡ is_id_above scope.now.up id }
+{
+    match scope.up() {
+        None => false,
+        Some(part) => part.id == id,
+    }
+}
