@@ -5,7 +5,8 @@ use Rattle.std.specs.Prelude.{Contains}
 use Rattle.ba_xml_places.proofs.Alive.{IsOfTags, kept_of, no_octets, refused_by, begun, refused_state}
 use Rattle.ba_xml_places.proofs.Exact.{IsWhy, why, reached_before}
 use Rattle.ba_xml_places.proofs.Exact as exact
-use Rattle.ba_xml_places.proofs.Stops.{goes_on, stops, halts, over, IsCauseAt, IsFoundAt, document_or}
+use Rattle.ba_xml_places.proofs.Standings.{IsCauseAt}
+use Rattle.ba_xml_places.proofs.Stops.{goes_on, stops, halts, over, IsFoundAt, document_or}
 use Rattle.ba_xml_places.proofs.Stops as found
 use Rattle.ba_xml_places.proofs.Utf8.{IsOfOctets, of_octets}
 use Rattle.ba_xml_places.proofs.Viable.{IsGoing, continued, going, lines_joined}

@@ -1,4 +1,5 @@
 pub mod Alive
+pub mod Answering
 pub mod Causes
 pub mod Closings
 pub mod ContentBack
@@ -8,13 +9,16 @@ pub mod Ends
 pub mod Exact
 pub mod Headings
 pub mod Leads
+pub mod Least
 pub mod LimitSteps
 pub mod Live
 pub mod LiveSteps
 pub mod Octets
+pub mod Parts
 pub mod Pieces
 pub mod ReferencesClose
 pub mod Sizes
+pub mod Standings
 pub mod StepBack
 pub mod Stops
 pub mod Table

@@ -1,12 +1,17 @@
 -- Where the machine stops over a document, whatever its prefixes mean and its size: nowhere, or at a start tag that is the cause.
-use Rattle.std.proofs.Common.{◌≡◌, ℕ, ◌+◌, ◌<◌, ◌≤◌, Bool, true, false, cond, nat_lt, ◌⊎◌, inl, inr, Option, Some, None, List, [], ◌∷◌}
+use Rattle.std.proofs.Common.{◌≡◌, ℕ, ◌+◌, ◌<◌, ◌≤◌, suc, Bool, true, false, cond, nat_lt, ◌⊎◌, inl, inr, Option, Some, None, List, [], ◌∷◌}
 use Rattle.std.proofs.Common.{◌++◌, map}
 use Rattle.std.proofs.Common.{length, codes, encode_utf8, refl, sym, ap, ◌∙◌, subst, append_assoc, append-nil, length-append, arith}
 use Rattle.std.proofs.lemmas.Bool.{ltb-true, ltb-false}
 use Rattle.std.proofs.lemmas.List.{map-append, length-map}
-use Rattle.std.proofs.lemmas.List.Elements.{Contains-push, Contains-append_left, Contains-append_right}
+use Rattle.std.proofs.lemmas.List.Elements.{Contains-append_left, Contains-append_right}
 use Rattle.std.specs.Prelude.{Contains}
 use Rattle.ba_tree.specs.declared.trees.Content.{Content}
+use Rattle.ba_xml_places.proofs.Parts.{at_most, IsPart, part_append, part_name, part_reference, part_pair, part_comment, part_section}
+use Rattle.ba_xml_places.proofs.Parts.{part_end, part_misc, part_heading, part_mark, end_longer, written_longer, behind_pairs, name_in_tag}
+use Rattle.ba_xml_places.proofs.Standings.{IsCauseAt, IsBehind, AreBehind, AreFree, AreWithin, Within, AreOf, the_first, the_rest}
+use Rattle.ba_xml_places.proofs.Standings.{only_first, nothing_in, either_of, none_free, none_within, shorter, longer, behind_attribute}
+use Rattle.ba_xml_places.proofs.Standings.{deep_behind, tag_free, namespace_behind, attributes_behind, pieces_within}
 use Rattle.ba_xml_places.proofs.Viable.{IsGoing}
 use Rattle.ba_xml_reader.proofs.CompleteContent.{greater_kind, character_runs, CharacterRuns, brackets, section_word}
 use Rattle.ba_xml_reader.proofs.CompleteDocuments.{Begins, outside, misc_runs, heading_reaches, mark_begins}
@@ -36,7 +41,7 @@ use Rattle.ba_xml_grammar.specs.Grammar.{written, written_misc, written_saying, 
 use Rattle.ba_xml_grammar.specs.Grammar.{written_heading}
 use Rattle.ba_xml_grammar.specs.Grammar.{written_mark, written_document, attribute, tag, meant, or_nothing, meaning, element_tree, row}
 use Rattle.ba_xml_grammar.specs.Grammar.{ArePairs, IsStart, Allowed, IsMisc, IsRoot, IsHeading, IsDocument}
-use Rattle.ba_xml_grammar.specs.GrammarWords.{IsPrefix, IsPlainName, IsWhite, Nowhere, written_name, written_prefix, Reference}
+use Rattle.ba_xml_grammar.specs.GrammarWords.{IsName, IsPrefix, IsPlainName, IsWhite, Nowhere, written_name, written_prefix, Reference}
 use Rattle.ba_xml_grammar.specs.GrammarWords.{reference_text}
 use Rattle.ba_xml_grammar.specs.GrammarWords.{written_reference, character_of}
 use Rattle.ba_xml_grammar.specs.Places.{Standing, standing, standings, document_standings}
@@ -102,91 +107,7 @@ over (b ∷ bs) s t rest e g =
 to_end : (bs : List ℕ) (s t : State) → steps s bs ≡ t → IsGoing t → stop s bs ≡ goes_on
 to_end bs s t e g = ap (λ x. stop s x) (sym (append-nil bs)) ∙ over bs s t [] e g ∙ stop_none t
 
--- ---- what is written, and what follows it
-
-abbrev IsPart : (List ℕ → List ℕ) → Type 0
-IsPart w = (xs rest : List ℕ) → w (xs ++ rest) ≡ w xs ++ rest
-
-part_append : (ys : List ℕ) → IsPart (λ r. ys ++ r)
-part_append ys xs rest = sym (append_assoc ys xs rest)
-
-part_name : (name : RawName) → IsPart (written_name name)
-part_name name xs rest = by name.prefix
-  where
-    by : (prefix : List ℕ) → written_prefix prefix (name.local ++ (xs ++ rest)) ≡ written_prefix prefix (name.local ++ xs) ++ rest
-    by [] = sym (append_assoc name.local xs rest)
-    by (b ∷ bs) = ap (λ x. b ∷ x) (ap (λ x. bs ++ 58 ∷ x) (sym (append_assoc name.local xs rest))
-        ∙ sym (append_assoc bs (58 ∷ (name.local ++ xs)) rest))
-
-part_reference : (r : Reference) → IsPart (written_reference r)
-part_reference r xs rest = ap (λ x. 38 ∷ x) (sym (append_assoc (reference_text r) (59 ∷ xs) rest))
-
-part_value : (v : Value) → IsPart (written_value v)
-part_value value_end xs rest = refl
-part_value (value_character b more) xs rest = ap (λ x. b ∷ x) (part_value more xs rest)
-part_value (value_reference r more) xs rest =
-    ap (λ x. written_reference r x) (part_value more xs rest) ∙ part_reference r (written_value more xs) rest
-
-part_attribute : (a : Pair) → IsPart (written_attribute a)
-part_attribute a xs rest =
-    ap (λ x. written_name a.name (a.left ++ 61 ∷ (a.right ++ a.quote ∷ x))) (part_value a.value (a.quote ∷ xs) rest)
-    ∙ ap (λ x. written_name a.name (a.left ++ 61 ∷ x)) (sym (append_assoc a.right (written_quoted a.quote a.value xs) rest))
-    ∙ ap (λ x. written_name a.name x) (sym (append_assoc a.left (61 ∷ (a.right ++ written_quoted a.quote a.value xs)) rest))
-    ∙ part_name a.name (a.left ++ 61 ∷ (a.right ++ written_quoted a.quote a.value xs)) rest
-
-part_pair : (a : Pair) → IsPart (written_pair a)
-part_pair a xs rest = ap (λ x. a.gap ++ x) (part_attribute a xs rest) ∙ sym (append_assoc a.gap (written_attribute a xs) rest)
-
-part_comment : (body : List ℕ) → IsPart (written_comment body)
-part_comment body xs rest = ap (λ x. 60 ∷ 33 ∷ 45 ∷ 45 ∷ x) (sym (append_assoc body (45 ∷ 45 ∷ 62 ∷ xs) rest))
-
-part_section : (body : List ℕ) → IsPart (written_section body)
-part_section body xs rest = ap (λ x. 60 ∷ 33 ∷ 91 ∷ 67 ∷ 68 ∷ 65 ∷ 84 ∷ 65 ∷ 91 ∷ x) (sym (append_assoc body (93 ∷ 93 ∷ 62 ∷ xs) rest))
-
-part_end : (name : RawName) (space : List ℕ) → IsPart (written_end name space)
-part_end name space xs rest =
-    ap (λ x. 60 ∷ 47 ∷ written_name name x) (sym (append_assoc space (62 ∷ xs) rest))
-    ∙ ap (λ x. 60 ∷ 47 ∷ x) (part_name name (space ++ 62 ∷ xs) rest)
-
-part_misc : (m : Misc) → IsPart (written_misc m)
-part_misc misc_end xs rest = refl
-part_misc (misc_space b more) xs rest = ap (λ x. b ∷ x) (part_misc more xs rest)
-part_misc (misc_comment body more) xs rest =
-    ap (λ x. written_comment body x) (part_misc more xs rest) ∙ part_comment body (written_misc more xs) rest
-
-part_saying : (s : Saying) (word value : List ℕ) → IsPart (written_saying s word value)
-part_saying s word value xs rest =
-    let v : List ℕ = value ++ s.quote ∷ xs in
-    let q : List ℕ = s.right ++ s.quote ∷ v in
-    let l : List ℕ = s.left ++ 61 ∷ q in
-    ap (λ x. s.gap ++ (word ++ (s.left ++ 61 ∷ (s.right ++ s.quote ∷ x)))) (sym (append_assoc value (s.quote ∷ xs) rest))
-    ∙ ap (λ x. s.gap ++ (word ++ (s.left ++ 61 ∷ x))) (sym (append_assoc s.right (s.quote ∷ v) rest))
-    ∙ ap (λ x. s.gap ++ (word ++ x)) (sym (append_assoc s.left (61 ∷ q) rest))
-    ∙ ap (λ x. s.gap ++ x) (sym (append_assoc word l rest))
-    ∙ sym (append_assoc s.gap (word ++ l) rest)
-
-part_encoding : (e : Encoding) → IsPart (written_encoding e)
-part_encoding no_encoding xs rest = refl
-part_encoding (encoding s name) xs rest = part_saying s (codes "encoding") name xs rest
-
-part_standalone : (s : Standalone) → IsPart (written_standalone s)
-part_standalone no_standalone xs rest = refl
-part_standalone (standalone s answer) xs rest = part_saying s (codes "standalone") (yes_or_no answer) xs rest
-
-part_heading : (h : Head) → IsPart (written_heading h)
-part_heading no_head xs rest = refl
-part_heading (head version e s space) xs rest =
-    let i : List ℕ = space ++ (codes "?>" ++ xs) in
-    ap (λ x. codes "<?xml" ++ x)
-    (ap (λ x. written_saying version (codes "version") (codes "1.0") (written_encoding e (written_standalone s x)))
-    (sym (append_assoc space (codes "?>" ++ xs) rest))
-    ∙ ap (λ x. written_saying version (codes "version") (codes "1.0") (written_encoding e x)) (part_standalone s i rest)
-    ∙ ap (λ x. written_saying version (codes "version") (codes "1.0") x) (part_encoding e (written_standalone s i) rest)
-    ∙ part_saying version (codes "version") (codes "1.0") (written_encoding e (written_standalone s i)) rest)
-
-part_mark : (mark : Bool) → IsPart (written_mark mark)
-part_mark true xs rest = refl
-part_mark false xs rest = refl
+-- ---- over what is written
 
 -- where the states lead over what is written, whatever follows
 runs : (w : List ℕ → List ℕ) → IsPart w → (s t : State) → ((rest : List ℕ) → steps s (w rest) ≡ steps t rest) → IsGoing t → (rest : List ℕ)
@@ -195,46 +116,53 @@ runs w p s t f g rest = ap (λ x. stop s x) (p [] rest) ∙ over (w []) s t rest
 
 -- ---- causes
 
--- the start tag is the reason to stop where these bytes are left
-abbrev pub IsCauseAt : Reason → Standing → List ℕ → Type 0
-IsCauseAt reason.Namespace t left = (opening t.scope (tag t.start) ≡ None) × (left ≡ t.closing)
-IsCauseAt reason.Depth t left = (t.level ≡ 33) × (left ≡ written_tag t.start t.closing)
-IsCauseAt reason.Attributes t left = (first : List Pair) × (a : Pair) × (more : List Pair) × (t.start.pairs ≡ first ++ a ∷ more)
-    × (length first ≡ 32)
-    × (left ≡ written_attribute a (written_pairs more (t.start.space ++ t.closing)))
-IsCauseAt _ t left = ⊥
-
 abbrev pub IsFoundAt : List Standing → State → List ℕ → Type 0
 IsFoundAt ts s bs = (r : Reason) × (left : List ℕ) × (stop s bs ≡ stops r left) × (t : Standing) × Contains ts t × IsCauseAt r t left
 
--- the states go on so, or stop at one of these start tags
-abbrev Or : List Standing → State → List ℕ → State → List ℕ → Type 0
-Or ts s bs t rest = (stop s bs ≡ stop t rest) ⊎ IsFoundAt ts s bs
+-- so, before what follows, and each other cause of these leaves fewer bytes
+abbrev pub IsFirstAt : List Standing → State → List ℕ → List ℕ → Type 0
+IsFirstAt ts s bs rest = (r : Reason) × (left : List ℕ) × (stop s bs ≡ stops r left) × (t : Standing) × Contains ts t × IsCauseAt r t left
+    × (length rest < length left) × AreBehind ts r left
 
-abbrev Within : List Standing → List Standing → Type 0
-Within ts us = (t : Standing) → Contains ts t → Contains us t
+-- the states go on so and none of these start tags is a cause, or they stop at the first that is
+abbrev Or : List Standing → State → List ℕ → State → List ℕ → Type 0
+Or ts s bs t rest = ((stop s bs ≡ stop t rest) × AreFree ts) ⊎ IsFirstAt ts s bs rest
 
 before : (ts : List Standing) (s t u : State) (bs cs ds : List ℕ) → stop s bs ≡ stop t cs → Or ts t cs u ds → Or ts s bs u ds
-before ts s t u bs cs ds e (inl f) = inl (e ∙ f)
-before ts s t u bs cs ds e (inr l) = inr (l.0, l.1, e ∙ l.2, l.3, l.4, l.5)
+before ts s t u bs cs ds e (inl f) = inl (e ∙ f.0, f.1)
+before ts s t u bs cs ds e (inr l) = inr (l.0, l.1, e ∙ l.2, l.3, l.4, l.5, l.6, l.7)
 
-widened : (ts us : List Standing) (s t : State) (bs cs : List ℕ) → Within ts us → Or ts s bs t cs → Or us s bs t cs
-widened ts us s t bs cs w (inl e) = inl e
-widened ts us s t bs cs w (inr l) = inr (l.0, l.1, l.2, l.3, w l.3 l.4, l.5)
+same_tags : (ts us : List Standing) (s t : State) (bs cs : List ℕ) → Within ts us → Within us ts → Or ts s bs t cs → Or us s bs t cs
+same_tags ts us s t bs cs w v (inl e) = inl (e.0, λ q u k c i. e.1 q u k (v u c) i)
+same_tags ts us s t bs cs w v (inr l) = inr (l.0, l.1, l.2, l.3, w l.3 l.4, l.5, l.6, λ q u k c i. l.7 q u k (v u c) i)
 
-next : (ts us vs : List Standing) (s t u : State) (bs cs ds : List ℕ) → Within ts vs → Within us vs → Or ts s bs t cs → Or us t cs u ds
-    → Or vs s bs u ds
-next ts us vs s t u bs cs ds v w (inl e) o = widened us vs s u bs ds w (before us s t u bs cs ds e o)
-next ts us vs s t u bs cs ds v w (inr l) o = inr (l.0, l.1, l.2, l.3, v l.3 l.4, l.5)
-
-the_first : (t : Standing) (ts : List Standing) → Contains (t ∷ ts) t
-the_first t ts = Contains-append_left (t ∷ []) ts t (Contains-push [] t)
-
-the_rest : (t : Standing) (ts : List Standing) → Within ts (t ∷ ts)
-the_rest t ts u c = Contains-append_right (t ∷ []) ts u c
-
-only_first : (t : Standing) (ts : List Standing) → Within (t ∷ []) (t ∷ ts)
-only_first t ts u c = Contains-append_left (t ∷ []) ts u c
+next : (ts us vs : List Standing) (s t u : State) (bs cs ds : List ℕ) → Within ts vs → Within us vs → AreOf ts us vs
+    → AreWithin us (length cs) → length ds ≤ length cs → Or ts s bs t cs → Or us t cs u ds → Or vs s bs u ds
+next ts us vs s t u bs cs ds v w p n d (inl e) (inl f) = inl (e.0 ∙ f.0, λ q y l c i. by q y l i (p y c))
+  where
+    by : (q : Reason) (y : Standing) (l : List ℕ) → IsCauseAt q y l → Contains ts y ⊎ Contains us y → ⊥
+    by q y l i (inl c) = e.1 q y l c i
+    by q y l i (inr c) = f.1 q y l c i
+next ts us vs s t u bs cs ds v w p n d (inl e) (inr f) =
+    inr (f.0, f.1, e.0 ∙ f.2, f.3, w f.3 f.4, f.5, f.6, λ q y l c i. by q y l i (p y c))
+  where
+    by : (q : Reason) (y : Standing) (l : List ℕ) → IsCauseAt q y l → Contains ts y ⊎ Contains us y → IsBehind q l f.0 f.1
+    by q y l i (inl c) = absurd (e.1 q y l c i)
+    by q y l i (inr c) = f.7 q y l c i
+next ts us vs s t u bs cs ds v w p n d (inr e) o = inr (
+  e.0,
+  e.1,
+  e.2,
+  e.3,
+  v e.3 e.4,
+  e.5,
+  shorter (length ds) (length cs) (length e.1) d e.6,
+  λ q y l c i. by q y l i (p y c),
+)
+  where
+    by : (q : Reason) (y : Standing) (l : List ℕ) → IsCauseAt q y l → Contains ts y ⊎ Contains us y → IsBehind q l e.0 e.1
+    by q y l i (inl c) = e.7 q y l c i
+    by q y l i (inr c) = inl (shorter (length l) (length cs) (length e.1) (n q y l c i) e.6)
 
 -- ---- where a name is refused at its first letter
 
@@ -252,7 +180,8 @@ tagged name pairs = record { name = name; attributes = map attribute pairs }
 
 -- the tag with all its attributes is read, or its 33rd is refused
 abbrev PairsOr : List Level → Level → RawName → List Pair → State → List ℕ → List ℕ → Type 0
-PairsOr outer here name pairs s bs rest = ((spaced : Bool) × (stop s bs ≡ stop (in_tag outer here (tagged name pairs) spaced) rest))
+PairsOr outer here name pairs s bs rest =
+    ((spaced : Bool) × (stop s bs ≡ stop (in_tag outer here (tagged name pairs) spaced) rest) × (length pairs ≤ 32))
     ⊎ ((first : List Pair) × (a : Pair) × (more : List Pair) × (pairs ≡ first ++ a ∷ more) × (length first ≡ 32)
     × (stop s bs ≡ stops reason.Attributes (written_attribute a (written_pairs more rest))))
 
@@ -260,7 +189,7 @@ pairs_before : (outer : List Level) (here : Level) (name : RawName) (ps qs : Lis
     → stop s bs ≡ stop t cs → ps ≡ qs
     → PairsOr outer here name ps t cs rest → PairsOr outer here name qs s bs rest
 pairs_before outer here name ps qs s t bs cs rest e q (inl f) =
-    inl (f.0, e ∙ f.1 ∙ ap (λ x. stop (in_tag outer here (tagged name x) f.0) rest) q)
+    inl (f.0, e ∙ f.1 ∙ ap (λ x. stop (in_tag outer here (tagged name x) f.0) rest) q, subst (λ x. length x ≤ 32) q f.2)
 pairs_before outer here name ps qs s t bs cs rest e q (inr f) = inr (f.0, f.1, f.2, sym q ∙ f.3, f.4, e ∙ f.5)
 
 attribute_refused : (outer : List Level) (here : Level) (t : Tag) → nat_lt (length t.attributes) 32 ≡ false → (b : ℕ)
@@ -274,7 +203,11 @@ pairs_or : (outer : List Level) (here : Level) (name : RawName) (pairs first : L
     → length first ≤ 32 → PairsOr outer here name (first ++ pairs) (in_tag outer here (tagged name first) spaced)
     (written_pairs pairs rest) rest
 pairs_or outer here name [] first spaced rest p l =
-    inl (spaced, ap (λ xs. stop (in_tag outer here (tagged name xs) spaced) rest) (sym (append-nil first)))
+    inl (
+      spaced,
+      ap (λ xs. stop (in_tag outer here (tagged name xs) spaced) rest) (sym (append-nil first)),
+      subst (λ x. length x ≤ 32) (sym (append-nil first)) l,
+    )
 pairs_or outer here name (a ∷ more) first spaced rest p l =
     by (nat_lt (length (map attribute first)) 32) refl (λ h. pairs_or outer here name more (first ++ a ∷ []) false rest
     (subst (λ xs. ArePairs xs more) (sym (map-append attribute first (a ∷ []))) p.1) h)
@@ -344,7 +277,8 @@ space_over outer here t spaced ws rest w =
 
 -- the tag is read up to its end, or its 33rd attribute is refused
 abbrev TagOr : List Level → Level → State → Start → List ℕ → Type 0
-TagOr outer here from s rest = ((spaced : Bool) × (stop from (written_tag s rest) ≡ stop (in_tag outer here (tag s) spaced) rest))
+TagOr outer here from s rest =
+    ((spaced : Bool) × (stop from (written_tag s rest) ≡ stop (in_tag outer here (tag s) spaced) rest) × (length s.pairs ≤ 32))
     ⊎ ((first : List Pair) × (a : Pair) × (more : List Pair) × (s.pairs ≡ first ++ a ∷ more) × (length first ≡ 32)
     × (stop from (written_tag s rest) ≡ stops reason.Attributes (written_attribute a (written_pairs more (s.space ++ rest)))))
 
@@ -364,7 +298,7 @@ tag_or outer here from s rest first t b = by (pairs_or outer here s.name s.pairs
     by : PairsOr outer here s.name s.pairs (in_tag outer here (tagged s.name []) false) (written_pairs s.pairs (s.space ++ rest))
         (s.space ++ rest)
         → TagOr outer here from s rest
-    by (inl f) = let e = space_over outer here (tag s) f.0 s.space rest t.2 in inl (e.0, to_pairs ∙ f.1 ∙ e.1)
+    by (inl f) = let e = space_over outer here (tag s) f.0 s.space rest t.2 in inl (e.0, to_pairs ∙ f.1 ∙ e.1, f.2)
     by (inr f) = inr (f.0, f.1, f.2, f.3, f.4, to_pairs ∙ f.5)
 
 opened_step : (outer : List Level) (here : Level) (s : Start) (spaced : Bool) (o : Option Opening)
@@ -389,28 +323,39 @@ emptied_state outer here s = At outer (with_child (settled here) (empty_tree (me
 abbrev stands : ℕ → List Level → Level → Start → List ℕ → Standing
 stands level outer here s closing = standing level (scope (here ∷ outer)) s closing
 
-start_or : (level : ℕ) (outer : List Level) (here : Level) (from : State) (s : Start) (rest : List ℕ) → Firsts outer here from → IsStart s
-    → Or (stands level outer here s (62 ∷ rest) ∷ []) from (written_tag s (62 ∷ rest)) (opened_state outer here s) rest
-start_or level outer here from s rest f t = by (tag_or outer here from s (62 ∷ rest) f t greater_breaks)
+no_less : (x y : ℕ) → x < y → x ≤ y
+no_less x y l = omega (arith, l)
+
+start_or : (level : ℕ) (outer : List Level) (here : Level) (from : State) (s : Start) (rest : List ℕ) → level ≤ 32
+    → Firsts outer here from → IsStart s → Or (stands level outer here s (62 ∷ rest) ∷ []) from (written_tag s (62 ∷ rest)) (opened_state outer here s) rest
+start_or level outer here from s rest h f t = by (tag_or outer here from s (62 ∷ rest) f t greater_breaks)
   where
-    by_opening : (sp : Bool) → stop from (written_tag s (62 ∷ rest)) ≡ stop (in_tag outer here (tag s) sp) (62 ∷ rest)
+    closes : length rest < length (62 ∷ rest)
+    closes = omega arith
+
+    by_opening : (sp : Bool) → stop from (written_tag s (62 ∷ rest)) ≡ stop (in_tag outer here (tag s) sp) (62 ∷ rest) → length s.pairs ≤ 32
         → (o : Option Opening) → opening (scope (here ∷ outer)) (tag s) ≡ o
         → Or (stands level outer here s (62 ∷ rest) ∷ []) from (written_tag s (62 ∷ rest)) (opened_state outer here s) rest
-    by_opening sp e None q = inr (
+    by_opening sp e n None q = inr (
       reason.Namespace,
       62 ∷ rest,
       e ∙ halts (in_tag outer here (tag s) sp) 62 rest reason.Namespace (opened_step outer here s sp None q),
       stands level outer here s (62 ∷ rest),
       the_first (stands level outer here s (62 ∷ rest)) [],
       (q, refl),
+      closes,
+      namespace_behind level (scope (here ∷ outer)) s (62 ∷ rest) h n,
     )
-    by_opening sp e (Some o) q = inl (e ∙ over_one (in_tag outer here (tag s) sp) (opened_state outer here s) 62 rest
-        (opened_step outer here s sp (Some o) q
-        ∙ ap (λ x. At (settled here ∷ outer) (child_level x (spelled s.name)) (mode.Inside Zero)) (sym (ap or_nothing q))) tt)
+    by_opening sp e n (Some o) q = inl (
+      e ∙ over_one (in_tag outer here (tag s) sp) (opened_state outer here s) 62 rest
+          (opened_step outer here s sp (Some o) q
+          ∙ ap (λ x. At (settled here ∷ outer) (child_level x (spelled s.name)) (mode.Inside Zero)) (sym (ap or_nothing q))) tt,
+      tag_free level (scope (here ∷ outer)) s (62 ∷ rest) o h n q,
+    )
 
     by : TagOr outer here from s (62 ∷ rest)
         → Or (stands level outer here s (62 ∷ rest) ∷ []) from (written_tag s (62 ∷ rest)) (opened_state outer here s) rest
-    by (inl r) = by_opening r.0 r.1 (opening (scope (here ∷ outer)) (tag s)) refl
+    by (inl r) = by_opening r.0 r.1 r.2 (opening (scope (here ∷ outer)) (tag s)) refl
     by (inr r) = inr (
       reason.Attributes,
       written_attribute r.1 (written_pairs r.2 (s.space ++ 62 ∷ rest)),
@@ -418,32 +363,44 @@ start_or level outer here from s rest f t = by (tag_or outer here from s (62 ∷
       stands level outer here s (62 ∷ rest),
       the_first (stands level outer here s (62 ∷ rest)) [],
       (r.0, r.1, r.2, r.3, r.4, refl),
+      longer (length rest) (length (62 ∷ rest)) (length (written_attribute r.1 (written_pairs r.2 (s.space ++ 62 ∷ rest)))) closes
+          (no_less (length (62 ∷ rest)) (length (written_attribute r.1 (written_pairs r.2 (s.space ++ 62 ∷ rest))))
+          (behind_attribute s r.1 r.2 (62 ∷ rest))),
+      attributes_behind level (scope (here ∷ outer)) s (62 ∷ rest) h r.0 r.1 r.2 r.3 r.4,
     )
 
-empty_or : (level : ℕ) (outer : List Level) (here : Level) (from : State) (s : Start) (rest : List ℕ) → Firsts outer here from → IsStart s
-    → Or (stands level outer here s (47 ∷ 62 ∷ rest) ∷ []) from (written_tag s (47 ∷ 62 ∷ rest)) (emptied_state outer here s) rest
-empty_or level outer here from s rest f t = by (tag_or outer here from s (47 ∷ 62 ∷ rest) f t slash_breaks)
+empty_or : (level : ℕ) (outer : List Level) (here : Level) (from : State) (s : Start) (rest : List ℕ) → level ≤ 32
+    → Firsts outer here from → IsStart s → Or (stands level outer here s (47 ∷ 62 ∷ rest) ∷ []) from (written_tag s (47 ∷ 62 ∷ rest)) (emptied_state outer here s) rest
+empty_or level outer here from s rest h f t = by (tag_or outer here from s (47 ∷ 62 ∷ rest) f t slash_breaks)
   where
-    by_opening : (sp : Bool) → stop from (written_tag s (47 ∷ 62 ∷ rest)) ≡ stop (in_tag outer here (tag s) sp) (47 ∷ 62 ∷ rest)
+    closes : length rest < length (47 ∷ 62 ∷ rest)
+    closes = omega arith
+
+    by_opening : (sp : Bool) → stop from (written_tag s (47 ∷ 62 ∷ rest)) ≡ stop (in_tag outer here (tag s) sp) (47 ∷ 62 ∷ rest) → length s.pairs ≤ 32
         → (o : Option Opening) → opening (scope (here ∷ outer)) (tag s) ≡ o
         → Or (stands level outer here s (47 ∷ 62 ∷ rest) ∷ []) from (written_tag s (47 ∷ 62 ∷ rest)) (emptied_state outer here s) rest
-    by_opening sp e None q = inr (
+    by_opening sp e n None q = inr (
       reason.Namespace,
       47 ∷ 62 ∷ rest,
       e ∙ halts (in_tag outer here (tag s) sp) 47 (62 ∷ rest) reason.Namespace (slashed_step outer here s sp None q),
       stands level outer here s (47 ∷ 62 ∷ rest),
       the_first (stands level outer here s (47 ∷ 62 ∷ rest)) [],
       (q, refl),
+      closes,
+      namespace_behind level (scope (here ∷ outer)) s (47 ∷ 62 ∷ rest) h n,
     )
-    by_opening sp e (Some o) q = inl (e
-        ∙ over_one (in_tag outer here (tag s) sp) (At outer here (mode.Slashed (meant (scope (here ∷ outer)) s))) 47 (62 ∷ rest)
-        (slashed_step outer here s sp (Some o) q ∙ ap (λ x. At outer here (mode.Slashed x)) (sym (ap or_nothing q))) tt
-        ∙ over_one (At outer here (mode.Slashed (meant (scope (here ∷ outer)) s))) (emptied_state outer here s) 62 rest
-        (by_kind outer here (mode.Slashed (meant (scope (here ∷ outer)) s)) 62 class.Greater greater_kind) tt)
+    by_opening sp e n (Some o) q = inl (
+      e
+          ∙ over_one (in_tag outer here (tag s) sp) (At outer here (mode.Slashed (meant (scope (here ∷ outer)) s))) 47 (62 ∷ rest)
+          (slashed_step outer here s sp (Some o) q ∙ ap (λ x. At outer here (mode.Slashed x)) (sym (ap or_nothing q))) tt
+          ∙ over_one (At outer here (mode.Slashed (meant (scope (here ∷ outer)) s))) (emptied_state outer here s) 62 rest
+          (by_kind outer here (mode.Slashed (meant (scope (here ∷ outer)) s)) 62 class.Greater greater_kind) tt,
+      tag_free level (scope (here ∷ outer)) s (47 ∷ 62 ∷ rest) o h n q,
+    )
 
     by : TagOr outer here from s (47 ∷ 62 ∷ rest)
         → Or (stands level outer here s (47 ∷ 62 ∷ rest) ∷ []) from (written_tag s (47 ∷ 62 ∷ rest)) (emptied_state outer here s) rest
-    by (inl r) = by_opening r.0 r.1 (opening (scope (here ∷ outer)) (tag s)) refl
+    by (inl r) = by_opening r.0 r.1 r.2 (opening (scope (here ∷ outer)) (tag s)) refl
     by (inr r) = inr (
       reason.Attributes,
       written_attribute r.1 (written_pairs r.2 (s.space ++ 47 ∷ 62 ∷ rest)),
@@ -451,15 +408,13 @@ empty_or level outer here from s rest f t = by (tag_or outer here from s (47 ∷
       stands level outer here s (47 ∷ 62 ∷ rest),
       the_first (stands level outer here s (47 ∷ 62 ∷ rest)) [],
       (r.0, r.1, r.2, r.3, r.4, refl),
+      longer (length rest) (length (47 ∷ 62 ∷ rest)) (length (written_attribute r.1 (written_pairs r.2 (s.space ++ 47 ∷ 62 ∷ rest)))) closes
+          (no_less (length (47 ∷ 62 ∷ rest)) (length (written_attribute r.1 (written_pairs r.2 (s.space ++ 47 ∷ 62 ∷ rest))))
+          (behind_attribute s r.1 r.2 (47 ∷ 62 ∷ rest))),
+      attributes_behind level (scope (here ∷ outer)) s (47 ∷ 62 ∷ rest) h r.0 r.1 r.2 r.3 r.4,
     )
 
 -- ---- pieces
-
-none_contains : (u : Standing) (us : List Standing) → Contains [] u → Contains us u
-none_contains u us c = absurd (by c.0 c.1)
-  where
-    by : (k : ℕ) → k < 0 → ⊥
-    by k l = omega (arith, l)
 
 length_more : (level : Level) (outer : List Level) → length (level ∷ outer) ≡ length outer + 1
 length_more level outer = omega arith
@@ -469,6 +424,21 @@ level_more x y z e f = omega (arith, e, f)
 
 room_more : (x z : ℕ) → x < 32 → z ≡ x + 1 → z ≤ 32
 room_more x z h f = omega (arith, h, f)
+
+room : (x level : ℕ) → x < 32 → level ≡ x + 1 → level ≤ 32
+room x level h e = omega (arith, h, e)
+
+two_more : (x : ℕ) → x ≤ suc (suc x)
+two_more x = omega arith
+
+up_more : (x y z : ℕ) → x ≤ y → y ≤ z → x ≤ suc z
+up_more x y z a b = omega (arith, a, b)
+
+up_within : (ts : List Standing) (n : ℕ) → AreWithin ts n → AreWithin ts (suc n)
+up_within ts n w q t l c i = by (length l) (w q t l c i)
+  where
+    by : (k : ℕ) → k ≤ n → k ≤ suc n
+    by k h = omega (arith, h)
 
 abbrev PiecesOr : ℕ → List Level → Level → List Content → List ℕ → Seen → Pieces → List ℕ → Type 0
 PiecesOr level outer here content text seen p rest = (to : Seen) × Or (standings level (scope (here ∷ outer)) p rest)
@@ -488,27 +458,34 @@ element_standings level outer here s inside space rest = stands level outer here
     ∷ standings (level + 1) ((meant (scope (here ∷ outer)) s).declarations ++ scope (here ∷ outer)) inside (written_end s.name space rest)
 
 element_or : (level : ℕ) (outer : List Level) (here : Level) (from : State) (s : Start) (inside : Pieces) (space rest : List ℕ)
-    → Firsts outer here from
+    → level ≤ 32 → Firsts outer here from
     → IsStart s → IsWhite space → PiecesOr (level + 1) (settled here ∷ outer) (inner_level outer here s) [] [] Zero inside
     (written_end s.name space rest)
     → Or (element_standings level outer here s inside space rest) from (written_tag s (62 ∷ written inside (written_end s.name space rest)))
     (element_state outer here s inside) rest
-element_or level outer here from s inside space rest f t w inner =
+element_or level outer here from s inside space rest h f t w inner =
     let sc = (meant (scope (here ∷ outer)) s).declarations ++ scope (here ∷ outer) in
     let st = stands level outer here s (62 ∷ written inside (written_end s.name space rest)) in
     let us = standings (level + 1) sc inside (written_end s.name space rest) in
     let last = holding (inner_level outer here s) (content_after sc [] [] inside) (text_after [] inside) in
     next (st ∷ []) us (st ∷ us) from (opened_state outer here s) (element_state outer here s inside)
     (written_tag s (62 ∷ written inside (written_end s.name space rest))) (written inside (written_end s.name space rest)) rest
-    (only_first st us) (the_rest st us) (start_or level outer here from s (written inside (written_end s.name space rest)) f t)
+    (only_first st us) (the_rest st us) (either_of (st ∷ []) us) (pieces_within (level + 1) sc inside (written_end s.name space rest))
+    (at_most (length rest) (length (written_end s.name space rest)) (length (written inside (written_end s.name space rest)))
+    (end_longer s.name space rest) (written_longer inside (written_end s.name space rest)))
+    (start_or level outer here from s (written inside (written_end s.name space rest)) h f t)
     (next us [] us (opened_state outer here s) (At (settled here ∷ outer) last (mode.Inside inner.0)) (element_state outer here s inside)
-    (written inside (written_end s.name space rest)) (written_end s.name space rest) rest (λ u c. c) (λ u c. none_contains u us c) inner.1
-    (inl (runs (written_end s.name space) (part_end s.name space) (At (settled here ∷ outer) last (mode.Inside inner.0))
-    (At outer (with_child (settled here) (element_tree (meant (scope (here ∷ outer)) s)
-    (content_after sc [] [] inside ++ text_item (text_after [] inside)))) (mode.Inside Zero))
-    (λ r. end_runs (settled here) outer last inner.0 s.name space r refl t.0 w) tt rest
-    ∙ ap (λ c. stop (At outer (with_child (settled here) (element_tree (meant (scope (here ∷ outer)) s) c)) (mode.Inside Zero)) rest)
-    (law sc [] [] inside))))
+    (written inside (written_end s.name space rest)) (written_end s.name space rest) rest (λ u c. c) (λ u c. absurd (nothing_in u c)) (λ u c. inl c)
+    (none_within (length (written_end s.name space rest))) (end_longer s.name space rest) inner.1
+    (inl (
+      runs (written_end s.name space) (part_end s.name space) (At (settled here ∷ outer) last (mode.Inside inner.0))
+          (At outer (with_child (settled here) (element_tree (meant (scope (here ∷ outer)) s)
+          (content_after sc [] [] inside ++ text_item (text_after [] inside)))) (mode.Inside Zero))
+          (λ r. end_runs (settled here) outer last inner.0 s.name space r refl t.0 w) tt rest
+          ∙ ap (λ c. stop (At outer (with_child (settled here) (element_tree (meant (scope (here ∷ outer)) s) c)) (mode.Inside Zero)) rest)
+          (law sc [] [] inside),
+      none_free,
+    )))
 
 open_step : (parent : Level) (outer : List Level) (here : Level) (q : Bool) → nat_lt (length (parent ∷ outer)) 32 ≡ q → (b : ℕ)
     → is_first_letter b ≡ true
@@ -517,21 +494,26 @@ open_step : (parent : Level) (outer : List Level) (here : Level) (q : Bool) → 
 open_step parent outer here q e b f = by_kind (parent ∷ outer) here mode.Open b class.Letter (letter_kind b f)
     ∙ ap (λ q. cond q (At (parent ∷ outer) here (mode.TagName (one_letter b))) (Refused reason.Depth)) e
 
+behind_name : (s : Start) → IsName s.name → (tail : List ℕ) → length tail < length (written_tag s tail)
+behind_name s n tail = shorter (length tail) (length (written_pairs s.pairs (s.space ++ tail))) (length (written_tag s tail))
+    (behind_pairs s tail) (name_in_tag s n tail)
+
 -- a tag that may stand too deep
 deep_or : (level : ℕ) (parent : Level) (outer : List Level) (here : Level) (seen : Seen) (s : Start) (tail : List ℕ) (to : State)
     (rest : List ℕ)
-    (sc : List Declaration) (us : List Standing) → IsStart s → level ≡ length (parent ∷ outer) + 1 → length (parent ∷ outer) ≤ 32
+    (sc : List Declaration) (us : List Standing) → IsStart s → AreWithin us (length tail) → length rest ≤ length tail
+    → level ≡ length (parent ∷ outer) + 1 → length (parent ∷ outer) ≤ 32
     → (length (parent ∷ outer) < 32 → Firsts (parent ∷ outer) here (At (parent ∷ outer) here mode.Open)
     → Or (standing level sc s tail ∷ us) (At (parent ∷ outer) here mode.Open) (written_tag s tail) to rest)
     → (q : Bool) → nat_lt (length (parent ∷ outer)) 32 ≡ q
     → Or (standing level sc s tail ∷ us) (At (parent ∷ outer) here (mode.Inside seen)) (60 ∷ written_tag s tail) to rest
-deep_or level parent outer here seen s tail to rest sc us t l most then true e =
+deep_or level parent outer here seen s tail to rest sc us t w k l most then true e =
     before (standing level sc s tail ∷ us) (At (parent ∷ outer) here (mode.Inside seen)) (At (parent ∷ outer) here mode.Open) to
     (60 ∷ written_tag s tail) (written_tag s tail) rest
     (over_one (At (parent ∷ outer) here (mode.Inside seen)) (At (parent ∷ outer) here mode.Open) 60 (written_tag s tail)
     (by_kind (parent ∷ outer) here (mode.Inside seen) 60 class.Less less_kind) tt)
     (then (ltb-true (length (parent ∷ outer)) 32 e) (open_step parent outer here true e))
-deep_or level parent outer here seen s tail to rest sc us t l most then false e = inr (
+deep_or level parent outer here seen s tail to rest sc us t w k l most then false e = inr (
   reason.Depth,
   written_tag s tail,
   over_one (At (parent ∷ outer) here (mode.Inside seen)) (At (parent ∷ outer) here mode.Open) 60 (written_tag s tail)
@@ -541,6 +523,8 @@ deep_or level parent outer here seen s tail to rest sc us t l most then false e 
   standing level sc s tail,
   the_first (standing level sc s tail) us,
   (deepest (length (parent ∷ outer)) level l most (ltb-false (length (parent ∷ outer)) 32 e), refl),
+  shorter (length rest) (length tail) (length (written_tag s tail)) k (behind_name s t.0 tail),
+  deep_behind level sc s tail t us w,
 )
   where
     deepest : (x y : ℕ) → y ≡ x + 1 → x ≤ 32 → 32 ≤ x → y ≡ 33
@@ -564,7 +548,7 @@ pieces_or : (level : ℕ) (parent : Level) (outer : List Level) (here : Level) (
     (p : Pieces) (rest : List ℕ)
     → Allowed p → Nowhere section_word (brackets seen (row p)) → level ≡ length (parent ∷ outer) + 1 → length (parent ∷ outer) ≤ 32
     → PiecesOr level (parent ∷ outer) here content text seen p rest
-pieces_or level parent outer here content text seen nothing rest a n l d = (seen, inl refl)
+pieces_or level parent outer here content text seen nothing rest a n l d = (seen, inl (refl, none_free))
 pieces_or level parent outer here content text seen (character b more) rest a n l d =
     character_then level parent outer here content text seen b more rest
     (character_runs parent outer (holding here content text) seen b (row more) a.0.0 a.0.1 a.0.2 n)
@@ -609,12 +593,13 @@ pieces_or level parent outer here content text seen (empty s more) rest a n l d 
     let us = standings level sc more rest in (
       ih.0,
       next (st ∷ []) us (st ∷ us) _ (emptied_state (parent ∷ outer) (holding here content text) s) _ _ (written more rest) rest
-          (only_first st us) (the_rest st us)
+          (only_first st us) (the_rest st us) (either_of (st ∷ []) us) (pieces_within level sc more rest) (written_longer more rest)
           (deep_or level parent outer (holding here content text) seen s (47 ∷ 62 ∷ written more rest)
           (emptied_state (parent ∷ outer) (holding here content text) s)
-          (written more rest) sc [] a.0 l d
+          (written more rest) sc [] a.0 (none_within (length (47 ∷ 62 ∷ written more rest))) (two_more (length (written more rest))) l d
           (λ h f. empty_or level (parent ∷ outer) (holding here content text)
-          (At (parent ∷ outer) (holding here content text) mode.Open) s (written more rest) f a.0)
+          (At (parent ∷ outer) (holding here content text) mode.Open) s (written more rest)
+          (room (length (parent ∷ outer)) level h l) f a.0)
           (nat_lt (length (parent ∷ outer)) 32) refl)
           ih.1,
     )
@@ -630,11 +615,17 @@ pieces_or level parent outer here content text seen (element s inside space more
       next (st ∷ vs) us (st ∷ (vs ++ us)) _ (element_state (parent ∷ outer) (holding here content text) s inside) _ _
           (written more rest) rest
           (λ u c. Contains-append_left (st ∷ vs) us u c) (λ u c. Contains-append_right (st ∷ vs) us u c)
+          (either_of (st ∷ vs) us) (pieces_within level sc more rest) (written_longer more rest)
           (deep_or level parent outer (holding here content text) seen s (62 ∷ written inside (written_end s.name space (written more rest)))
-          (element_state (parent ∷ outer) (holding here content text) s inside) (written more rest) sc vs a.0 l d
+          (element_state (parent ∷ outer) (holding here content text) s inside) (written more rest) sc vs a.0
+          (up_within vs (length (written inside (written_end s.name space (written more rest))))
+          (pieces_within (level + 1) ((meant sc s).declarations ++ sc) inside (written_end s.name space (written more rest))))
+          (up_more (length (written more rest)) (length (written_end s.name space (written more rest)))
+          (length (written inside (written_end s.name space (written more rest)))) (end_longer s.name space (written more rest))
+          (written_longer inside (written_end s.name space (written more rest)))) l d
           (λ h f. element_or level (parent ∷ outer) (holding here content text)
           (At (parent ∷ outer) (holding here content text) mode.Open) s inside space
-          (written more rest) f a.0 a.2
+          (written more rest) (room (length (parent ∷ outer)) level h l) f a.0 a.2
           (pieces_or (level + 1) (settled (holding here content text)) (parent ∷ outer)
           (child_level (meant sc s) (spelled s.name)) [] [] Zero inside
           (written_end s.name space (written more rest)) a.1 (row_safe inside a.1)
@@ -683,12 +674,19 @@ one_open = omega arith
 two_levels : 1 + 1 ≡ length (settled document ∷ []) + 1
 two_levels = omega arith
 
+one_level : 1 ≤ 32
+one_level = omega arith
+
+without_end : (ts : List Standing) (u : Standing) → Contains ts u ⊎ Contains [] u → Contains ts u
+without_end ts u (inl c) = c
+without_end ts u (inr c) = absurd (nothing_in u c)
+
 empty_root : (s : Start) (rest : List ℕ) → Allowed (empty s nothing) → RootOr (empty s nothing) rest
 empty_root s rest a from g h m ih im =
     let x = up_to from g h m ih im in
     before (standings 1 first_scope (empty s nothing) rest) from x.0 (outside (meaning first_scope (empty s nothing))) _
     (written_tag s (47 ∷ 62 ∷ rest)) rest
-    (x.2 (written_tag s (47 ∷ 62 ∷ rest))) (empty_or 1 [] document x.0 s rest x.1 a.0)
+    (x.2 (written_tag s (47 ∷ 62 ∷ rest))) (empty_or 1 [] document x.0 s rest one_level x.1 a.0)
 
 element_root : (s : Start) (inside : Pieces) (space rest : List ℕ) → Allowed (element s inside space nothing)
     → RootOr (element s inside space nothing) rest
@@ -700,8 +698,9 @@ element_root s inside space rest a from g h m ih im =
     (outside (meaning first_scope (element s inside space nothing))) _
     (written_tag s (62 ∷ written inside (written_end s.name space rest))) rest
     (x.2 (written_tag s (62 ∷ written inside (written_end s.name space rest))))
-    (widened (st ∷ us) (st ∷ (us ++ [])) x.0 _ _ rest (λ u c. Contains-append_left (st ∷ us) [] u c)
-    (element_or 1 [] document x.0 s inside space rest x.1 a.0 a.2
+    (same_tags (st ∷ us) (st ∷ (us ++ [])) x.0 _ _ rest (λ u c. Contains-append_left (st ∷ us) [] u c)
+    (λ u c. without_end (st ∷ us) u (either_of (st ∷ us) [] u c))
+    (element_or 1 [] document x.0 s inside space rest one_level x.1 a.0 a.2
     (pieces_or (1 + 1) (settled document) [] (child_level (meant first_scope s) (spelled s.name)) [] [] Zero inside
     (written_end s.name space rest)
     a.1 (row_safe inside a.1) two_levels one_open)))
@@ -711,11 +710,13 @@ root_or (empty s nothing) rest i a = empty_root s rest a
 root_or (element s inside space nothing) rest i a = element_root s inside space rest a
 root_or _ rest i a = absurd i
 
--- over a document the machine stops nowhere, or at a start tag that is the cause
-pub document_or : (d : Document) → IsDocument d
-    → (stop (At [] document mode.Begin) (written_document d) ≡ goes_on)
-    ⊎ IsFoundAt (document_standings d) (At [] document mode.Begin) (written_document d)
-document_or d i =
+-- over a document the machine stops nowhere, or at the first start tag that is a cause
+abbrev DocumentOr : Document → Type 0
+DocumentOr d = ((stop (At [] document mode.Begin) (written_document d) ≡ goes_on) × AreFree (document_standings d))
+    ⊎ IsFirstAt (document_standings d) (At [] document mode.Begin) (written_document d) (written_misc d.behind [])
+
+document_first : (d : Document) → IsDocument d → DocumentOr d
+document_first d i =
     let m = mark_begins d.mark in
     let rest = written_heading d.heading (written_misc d.before (written d.root (written_misc d.behind []))) in
     by (before (document_standings d) (At [] document mode.Begin) m.0 (outside (meaning first_scope d.root)) (written_document d) rest
@@ -730,7 +731,74 @@ document_or d i =
 
     by : Or (document_standings d) (At [] document mode.Begin) (written_document d) (outside (meaning first_scope d.root))
         (written_misc d.behind [])
-        → (stop (At [] document mode.Begin) (written_document d) ≡ goes_on)
-        ⊎ IsFoundAt (document_standings d) (At [] document mode.Begin) (written_document d)
-    by (inl e) = inl (e ∙ ended)
+        → DocumentOr d
+    by (inl e) = inl (e.0 ∙ ended, e.1)
     by (inr f) = inr f
+
+pub document_or : (d : Document) → IsDocument d
+    → (stop (At [] document mode.Begin) (written_document d) ≡ goes_on)
+    ⊎ IsFoundAt (document_standings d) (At [] document mode.Begin) (written_document d)
+document_or d i = by (document_first d i)
+  where
+    by : DocumentOr d → (stop (At [] document mode.Begin) (written_document d) ≡ goes_on)
+        ⊎ IsFoundAt (document_standings d) (At [] document mode.Begin) (written_document d)
+    by (inl f) = inl f.0
+    by (inr f) = inr (f.0, f.1, f.2, f.3, f.4, f.5)
+
+-- where a start tag is a cause, the machine stops there, or where more bytes are left
+pub stops_by_then : (d : Document) → IsDocument d → (q : Reason) (t : Standing) (l : List ℕ) → Contains (document_standings d) t
+    → IsCauseAt q t l
+    → (r : Reason) × (left : List ℕ) × (stop (At [] document mode.Begin) (written_document d) ≡ stops r left) × IsBehind q l r left
+stops_by_then d i q t l c k = by (document_first d i)
+  where
+    by : DocumentOr d
+        → (r : Reason) × (left : List ℕ) × (stop (At [] document mode.Begin) (written_document d) ≡ stops r left) × IsBehind q l r left
+    by (inl f) = absurd (f.1 q t l c k)
+    by (inr f) = (f.0, f.1, f.2, f.7 q t l c k)
+
+-- ---- what is left where a state stops
+
+no_stops : (r : Reason) (left : List ℕ) → goes_on ≡ stops r left → ⊥
+no_stops r left e = cc
+
+stopped_reason : (q r : Reason) (xs ys : List ℕ) → stops q xs ≡ stops r ys → q ≡ r
+stopped_reason q r xs ys e = cc
+
+stopped_left : (q r : Reason) (xs ys : List ℕ) → stops q xs ≡ stops r ys → xs ≡ ys
+stopped_left q r xs ys e = cc
+
+-- at the first byte, or behind it
+first_byte : (s : State) (b : ℕ) (bs : List ℕ) (r : Reason) (left : List ℕ) → stop s (b ∷ bs) ≡ stops r left → (u : State)
+    → state_after s b ≡ u → ((u ≡ Refused r) × (left ≡ b ∷ bs)) ⊎ (stop u bs ≡ stops r left)
+unfolding stop
+first_byte s b bs r left e (Refused q) f =
+    let both : stops q (b ∷ bs) ≡ stops r left = sym (ap (λ u. stop_by u (b ∷ bs) (stop u bs)) f) ∙ e in
+    inl (ap (λ x. Refused x) (stopped_reason q r (b ∷ bs) left both), sym (stopped_left q r (b ∷ bs) left both))
+first_byte s b bs r left e (At outer here m) f = inr (sym (ap (λ u. stop_by u (b ∷ bs) (stop u bs)) f) ∙ e)
+
+pub stop_short : (bs : List ℕ) (s : State) (r : Reason) (left : List ℕ) → stop s bs ≡ stops r left → length left ≤ length bs
+stop_short [] s r left e = absurd (no_stops r left (sym (stop_none s) ∙ e))
+stop_short (b ∷ bs) s r left e =
+    by (first_byte s b bs r left e (state_after s b) refl) (λ f. stop_short bs (state_after s b) r left f)
+  where
+    up : (x y : ℕ) → x ≤ y → x ≤ suc y
+    up x y l = omega (arith, l)
+
+    by : ((state_after s b ≡ Refused r) × (left ≡ b ∷ bs)) ⊎ (stop (state_after s b) bs ≡ stops r left)
+        → (stop (state_after s b) bs ≡ stops r left → length left ≤ length bs) → length left ≤ length (b ∷ bs)
+    by (inl f) ih = subst (λ x. length x ≤ length (b ∷ bs)) (sym f.1) (omega arith)
+    by (inr f) ih = up (length left) (length bs) (ih f)
+
+-- where all is left, the first byte is refused
+pub first_refused : (bs : List ℕ) (s : State) (r : Reason) → stop s bs ≡ stops r bs
+    → (b : ℕ) × (more : List ℕ) × (bs ≡ b ∷ more) × (state_after s b ≡ Refused r)
+first_refused [] s r e = absurd (no_stops r [] (sym (stop_none s) ∙ e))
+first_refused (b ∷ bs) s r e = by (first_byte s b bs r (b ∷ bs) e (state_after s b) refl)
+  where
+    never : (x : ℕ) → suc x ≤ x → ⊥
+    never x l = omega (arith, l)
+
+    by : ((state_after s b ≡ Refused r) × (b ∷ bs ≡ b ∷ bs)) ⊎ (stop (state_after s b) bs ≡ stops r (b ∷ bs))
+        → (c : ℕ) × (more : List ℕ) × (b ∷ bs ≡ c ∷ more) × (state_after s c ≡ Refused r)
+    by (inl f) = (b, bs, refl, f.0)
+    by (inr f) = absurd (never (length bs) (stop_short bs (state_after s b) r (b ∷ bs) f))

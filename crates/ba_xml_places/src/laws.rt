@@ -1,12 +1,14 @@
 //! What holds of the places at which bytes are refused, as laws over all bytes.
-ghost use Rattle.std.specs.Prelude.{◌≡◌, ◌≢◌, ◌≤◌, ◌<◌, ◌+◌, ℕ, List, take, Ok, Err};
+ghost use Rattle.std.specs.Prelude.{◌≡◌, ◌≢◌, ◌≤◌, ◌<◌, ◌+◌, ℕ, List, take, Result, Ok, Err};
 ghost use Rattle.ba_tree.specs.declared.trees.Tree.{Tree};
 ghost use Rattle.ba_xml_grammar.specs.GrammarTexts.{CanContinue};
 ghost use Rattle.ba_xml_grammar.specs.Places.{IsCause, IsDead};
+ghost use Rattle.ba_xml_places.specs.Answers.{IsAnswerTo};
 ghost use Rattle.ba_xml_places.specs.Limits.{IsOfLimits};
 ghost use Rattle.ba_xml_places.specs.Taken.{IsTaken};
 ghost use Rattle.ba_xml_reader.specs.Machine.{xml_answer};
 ghost use Rattle.ba_xml_words.specs.declared.faults.Reason.{Reason};
+ghost use Rattle.ba_xml_words.specs.declared.faults.XmlFault.{XmlFault};
 ghost use Rattle.ba_xml_words.specs.declared.faults.XmlFault.TheVariants as fault;
 
 /// Where the machine refuses none of the bytes, some bytes continue them to a text, whatever its prefixes mean and
@@ -45,4 +47,13 @@ pub fn limits_come_before_dead_places()
         → IsOfLimits reason → CanContinue (take (place + 1) bytes) }
     ensures later { (bytes : List ℕ) (reason : Reason) (place : ℕ) → xml_answer bytes ≡ Err (fault.At reason place)
         → IsOfLimits reason → (dead : ℕ) → IsDead bytes dead → place < dead }
+{}
+
+/// The answer to any bytes is that of the table: the tree of which they are a text; or of all causes the one at the least
+/// place, and there the one with the lowest number; or, where nothing is a cause and they are no text, that they end too
+/// early. The table has one answer to any bytes.
+pub fn answers_are_those_of_the_table()
+    ensures answer { (bytes : List ℕ) → IsAnswerTo bytes (xml_answer bytes) }
+    ensures one { (bytes : List ℕ) (answer other : Result Tree XmlFault) → IsAnswerTo bytes answer → IsAnswerTo bytes other
+        → answer ≡ other }
 {}
