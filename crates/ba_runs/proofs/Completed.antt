@@ -44,7 +44,7 @@ use Rattle.ba_runs.proofs.AddressedRuns.{run_addressed}
 use Rattle.ba_runs.proofs.EndLemmas.{end_parts}
 use Rattle.ba_runs.proofs.Letters.{heard_above, heard_below}
 use Rattle.ba_runs.proofs.Nets.{net_moves}
-use Rattle.ba_runs.proofs.Owners.{end_fits_here, end_id, one_end_here, one_participant, part_id, scope_fits_here, sender_is}
+use Rattle.ba_runs.proofs.Owners.{end_fits_here, end_id, one_participant, part_id, scope_fits_here, sender_is}
 use Rattle.ba_runs.proofs.Recorded.{at_or_other}
 use Rattle.ba_runs.proofs.StatesGo.{EndBefore, StateComes, StatesGo, by_notice, by_tick, by_verdict, by_wish, input_states, state_stays, states_stay, tick_states}
 use Rattle.ba_runs.proofs.Told.{no_word_up, shown_side}
@@ -157,11 +157,11 @@ moved_states w w2 k o joined moves is =
 
 -- ---- runs
 
--- each end that is told to close was Completed
+-- each end that is told to close was Completed in an earlier world
 abbrev pub ClosesAfter : World → List World → Type 0
 ClosesAfter w before =
     (k : ℕ) (s : ScopeState) (e : End) → ScopeAt (net_of w) k s → Among s.ends e → is_closing_state e.state ≡ true
-    → WasCompleted (w ∷ before) e.id
+    → WasCompleted before e.id
 
 old_end : (w : World) (before : List World) → IsAddressed (net_of w) → ClosesAfter w before → (k : ℕ) (cause : Option Input) (f : End)
     → EndBefore cause (node_at (net_of w) k).scopes f → is_closing_state f.state ≡ true → WasCompleted (w ∷ before) f.id
@@ -171,7 +171,7 @@ old_end w before is closes k cause f was closing =
     subst (WasCompleted (w ∷ before)) (sym was.becomes.id)
     (elim (completed_or_closing e.state (closing_comes cause e f fits was.becomes.state closing)) [
       | inl completed ↦ now k was.scope e was.here was.among refl completed
-      | inr told ↦ closes k was.scope e was.here was.among told
+      | inr told ↦ earlier (closes k was.scope e was.here was.among told)
     ])
 
 step_closes : (w w2 : World) (before : List World) → IsAddressed (net_of w) → WorldStep w w2 → ClosesAfter w before
@@ -179,7 +179,7 @@ step_closes : (w w2 : World) (before : List World) → IsAddressed (net_of w) �
 step_closes w w2 before is step closes k s e of among closing = elim (net_moves w w2 step) [
   | inl same ↦ earlier (closes k s e (subst (λ (n : Net). ScopeAt n k s) (sym same) of) among closing)
   | inr moved ↦ elim (moved_states (net_of w) (net_of w2) moved.0 moved.1 moved.2 moved.3 is k s e of among) [
-    | inl was ↦ earlier (old_end w before is closes k (cause_of moved.1) e was closing)
+    | inl was ↦ old_end w before is closes k (cause_of moved.1) e was closing
     | inr new ↦ not_active e.state new.0 closing
   ]
 ]
@@ -199,17 +199,26 @@ closing_sent l h = by_end l.end (and_parts (end_closes l.end) (end_in (end.Closi
     by_end None fits = absurd (true≢false (sym fits))
     by_end (Some x) fits = (x, refl, fits)
 
+-- the end that says Close in this letter
+record SaysClose (w : Net) (l : Letter) : Type 0 where
+  pub node : ℕ
+  pub scope : ScopeState
+  pub end : End
+  pub here : ScopeAt w node scope
+  pub among : Among scope.ends end
+  pub sender : sender_of l.number ≡ end.id.0
+  pub closes : is_closing_state end.state ≡ true
+
 module _ (w : Net) (sound : IsSound w) where
-  close_by : (l : Letter) (k : ℕ) (s : ScopeState) (e : End) → Among w.bag (letter l) → l.message ≡ message.Notice notice.Close
-      → ScopeAt w k s → Among s.ends e → sender_of l.number ≡ e.id.0 → MailFits w (letter l) → is_closing_state e.state ≡ true
-  close_by l k s e sent says of among sender (of_register j p has number to carries) = absurd cc
-  close_by l k s e sent says of among sender (of_part j p m has number to carries) =
+  close_by : (l : Letter) → Among w.bag (letter l) → l.message ≡ message.Notice notice.Close → MailFits w (letter l) → SaysClose w l
+  close_by l sent says (of_register j p has number to carries) = absurd cc
+  close_by l sent says (of_part j p m has number to carries) =
       let at = sound.addressed.endpoints.parts j p has in
       let own : sender_of l.number ≡ p.id.0 = ap sender_of number ∙ sender_is j (notice_code m) p.id (part_id w sound.addressed j p has) in
       absurd (no_word_up (link_in w j p at.1).state notice.Close Close refl
       (sent_fits (link_in w j p at.1) (to_end notice.Close) (sound.links j at.0 p at.1 at.2)
       (heard_above w sound.addressed j p l notice.Close sent own says)))
-  close_by l k s e sent says of among sender (of_end i t f m has there number to carries) =
+  close_by l sent says (of_end i t f m has there number to carries) =
       let known = sound.addressed.endpoints.ends i t f has there in
       let heard = heard_below w sound.addressed known.0 known.1 l notice.Close known.2.part sent (to ∙ known.3) says in
       let fits = sent_fits (link_in w known.0 known.1 t) (to_part notice.Close) (sound.links known.0 i known.1 t known.2) heard in
@@ -217,19 +226,26 @@ module _ (w : Net) (sound : IsSound w) where
       let side = shown_side t (participant_at w known.0 known.1.id) shown.0 shown.1 in
       let one : side.0 ≡ f =
       one_participant t.ends side.0 f (scope_fits_here w sound.addressed i t has).apart side.1 there (side.2 ∙ sym known.3) in
-      let ids : f.id.0 ≡ e.id.0 =
-      sym (sender_is i (notice_code m) f.id (end_id w sound.addressed i t f has there)) ∙ sym (ap sender_of number) ∙ sender in
-      let same : f ≡ e = (one_end_here w sound.addressed i k t s f e has of there among ids).2 in
-      let state : shown.0.state ≡ e.state =
-      ap (λ (x : link.End). x.state) (sym side.3) ∙ ap (λ (x : End). x.state) (one ∙ same) in
-      subst (λ (c : CState). is_closing_state c ≡ true) state shown.2
+      let state : shown.0.state ≡ f.state =
+      ap (λ (x : link.End). x.state) (sym side.3) ∙ ap (λ (x : End). x.state) one in
+      record {
+        node = i;
+        scope = t;
+        end = f;
+        here = has;
+        among = there;
+        sender = ap sender_of number ∙ sender_is i (notice_code m) f.id (end_id w sound.addressed i t f has there);
+        closes = subst (λ (c : CState). is_closing_state c ≡ true) state shown.2;
+      }
 
-  pub close_sent : (l : Letter) (k : ℕ) (s : ScopeState) (e : End) → Among w.bag (letter l) → l.message ≡ message.Notice notice.Close
-      → ScopeAt w k s → Among s.ends e → sender_of l.number ≡ e.id.0 → is_closing_state e.state ≡ true
-  close_sent l k s e sent says of among sender = close_by l k s e sent says of among sender (sound.addressed.mail (letter l) sent)
+  close_sent : (l : Letter) → Among w.bag (letter l) → l.message ≡ message.Notice notice.Close → SaysClose w l
+  close_sent l sent says = close_by l sent says (sound.addressed.mail (letter l) sent)
 
-pub close_told : (w : World) (before : List World) → IsRun (w ∷ before) → IsSound (net_of w) → (l : Letter) (k : ℕ) (s : ScopeState)
-    (e : End) → Among w.bag (letter l) → l.message ≡ message.Notice notice.Close → ScopeAt (net_of w) k s → Among s.ends e
-    → sender_of l.number ≡ e.id.0 → WasCompleted (w ∷ before) e.id
-close_told w before run sound l k s e sent says of among sender =
-    run_closes w before run k s e of among (close_sent (net_of w) sound l k s e sent says of among sender)
+pub close_told : (w : World) (before : List World) → IsRun (w ∷ before) → IsSound (net_of w) → (l : Letter) → Among w.bag (letter l)
+    → l.message ≡ message.Notice notice.Close
+    → (k : ℕ) × (s : ScopeState) × (e : End) × ScopeAt (net_of w) k s × Among s.ends e × (sender_of l.number ≡ e.id.0)
+    × WasCompleted before e.id
+close_told w before run sound l sent says =
+    let its = close_sent (net_of w) sound l sent says in
+    let was = run_closes w before run its.node its.scope its.end its.here its.among its.closes in
+    (its.node, its.scope, its.end, its.here, its.among, its.sender, was)

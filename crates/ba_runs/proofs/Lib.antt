@@ -14,6 +14,7 @@ pub mod LinksKept
 pub mod MailLemmas
 pub mod Nets
 pub mod NodesStay
+pub mod OneReplay
 pub mod OutcomeRecords
 pub mod OutcomesOnce
 pub mod OutcomesTold

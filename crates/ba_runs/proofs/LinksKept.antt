@@ -24,18 +24,19 @@ use Rattle.ba_steps.proofs.Hyphens.{registrations_apart}
 use Rattle.ba_steps.proofs.Members.{among_left}
 use Rattle.ba_steps.proofs.Objects.{end_owned, ids_in_scopes, in_scopes, lone_ids}
 use Rattle.ba_steps.proofs.Places.{first_is}
-use Rattle.ba_runs.specs.Links.{Begins, IsLink, LinksStep, StepsFrom, StepsOrStays, link_in, side_of}
+use Rattle.ba_runs.specs.Links.{Begins, IsLink, IsNewAt, LinksStay, LinksStep, StepsFrom, StepsOrStays, link_in, side_of}
 use Rattle.ba_runs.specs.Safety.{IsAddressed}
 use Rattle.ba_runs.specs.Trees.{GenerationsFit}
 use Rattle.ba_runs.specs.World.{Net, Occasion, PartAt, ScopeAt, delivers, node_at, own, participant_at, registration_at, ticks}
 use Rattle.ba_runs.specs.WorldSteps.{IsPossible, IsRegistration, Moves, effect}
-use Rattle.ba_runs.proofs.Addressed.{base_stays, cause_of, goes, no_create, no_join}
+use Rattle.ba_runs.proofs.Addressed.{base_stays, cause_of, goes, link_goes, no_create, no_join}
 use Rattle.ba_runs.proofs.Goes.{Enrols, Makes}
 use Rattle.ba_runs.proofs.Heard.{sent_on}
 use Rattle.ba_runs.proofs.LinksBegin.{at_most, new_sent, other_endpoint, part_among}
 use Rattle.ba_runs.proofs.LinksGo.{PartWas, old_link, part_was, same_registration, scope_was, sends, sent_after}
 use Rattle.ba_runs.proofs.MailLemmas.{addressed}
 use Rattle.ba_runs.proofs.Owners.{end_id, fits_here, id_has_text, one_node, part_id, scope_id}
+use Rattle.ba_runs.proofs.RunLemmas.{moved_grows}
 use Rattle.ba_runs.proofs.Said.{IsSpeechOf, Spoken, said_on, spoken}
 use Rattle.ba_runs.proofs.StrideLemmas.{none_joins}
 use Rattle.ba_runs.proofs.Strides.{Change, Speech}
@@ -64,6 +65,15 @@ module _ (w w2 : Net) (k : ℕ) (o : Occasion) (joined : Bool) (moves : Moves w 
 
   after : IsAddressed w2
   after = addressed w w2 k o joined moves is
+
+  -- ---- each link is there afterwards
+
+  pub links_stay_on : LinksStay w w2
+  links_stay_on j p l r at =
+      let next = (goes w w2 k o joined moves is j).parts_forth p at.part in
+      let like = ((moved_grows w w2 k o joined moves is.nodes).nodes l).scopes r at.scope in
+      let link = link_goes w w2 k o joined moves is j l p next.0 r like.0 at.names next.1 next.2.registration like.1 like.2 in
+      (next.0, like.0, link, (next.2.id, like.2))
 
   -- ---- the identifier of a new object
 
@@ -185,7 +195,7 @@ module _ (w w2 : Net) (k : ℕ) (o : Occasion) (joined : Bool) (moves : Moves w 
     says = spoken w is k o speech moves.possible its trace.stands
 
     abbrev Goes : ℕ → Part → ℕ → ScopeState → Type 0
-    Goes j q l t = StepsFrom w w2 j q l t ⊎ Begins (link_in w2 j q t)
+    Goes j q l t = StepsFrom w w2 j q l t ⊎ (IsNewAt w j q.id × Begins (link_in w2 j q t))
 
     -- the registration of a participant that was there, or is new
     old_registration : (j : ℕ) (q : Part) → PartAt w2 j q → PartWas w w2 k o joined moves is speech trace.mover j q
@@ -206,7 +216,10 @@ module _ (w w2 : Net) (k : ℕ) (o : Occasion) (joined : Bool) (moves : Moves w 
     ]
 
     new_part : (q : Part) (l : ℕ) (t : ScopeState) → IsLink w2 k q l t → IsNewPart (cause_of o) n q → Goes k q l t
-    new_part q l t at new = inr (begins q new at.part l t at.scope)
+    new_part q l t at new = inr (
+      λ p has same. no_part q new at.part k p has (ap (λ (i : Id). i.0) same),
+      begins q new at.part l t at.scope,
+    )
 
     pub links_step : LinksStep w w2
     links_step j q l t at = elim (part_was w w2 k o joined moves is speech trace j q at.part) [
@@ -229,8 +242,8 @@ pub links_fit : (w w2 : Net) → LinksStep w w2 → ((j k : ℕ) (p : Part) (s :
     → (j k : ℕ) (p : Part) (s : ScopeState) → IsLink w2 j p k s → LinkFits (link_in w2 j p s)
 links_fit w w2 step fits j k p s at = elim (step j p k s at) [
   | inl from ↦
-      let two = from.3 in
+      let two = from.4 in
       still_fits two.0 (link_in w2 j p s) two.2
       (still_fits (link_in w j from.0 from.1) two.0 two.1 (fits j k from.0 from.1 from.2))
-  | inr begins ↦ begun_fits (link_in w2 j p s) begins
+  | inr new ↦ begun_fits (link_in w2 j p s) new.1
 ]

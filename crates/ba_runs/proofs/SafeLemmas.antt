@@ -39,6 +39,7 @@ safe w sound = record {
   links = sound.links;
   mail = sound.addressed.mail;
   ends = one_link w sound.addressed;
+  registers = sound.addressed.endpoints.parts;
   parts = own_end w sound.addressed;
   scopes = λ k s has. scope_fits_here w sound.addressed k s has;
   trees = sound.trees;

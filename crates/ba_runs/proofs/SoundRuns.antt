@@ -5,7 +5,7 @@ use Rattle.ba_scope.specs.Scope.{ScopeState}
 use Rattle.ba_steps.specs.Node.{Among, NodeState}
 use Rattle.ba_steps.specs.declared.inputs.Input.{Input}
 use Rattle.ba_steps.specs.declared.inputs.Input.TheVariants as input
-use Rattle.ba_runs.specs.Links.{LinksStep, link_in}
+use Rattle.ba_runs.specs.Links.{LinksStay, LinksStep, link_in}
 use Rattle.ba_runs.specs.Runs.{IsRun, IsFirstWorld, goes_on, starts}
 use Rattle.ba_runs.specs.Safety.{IsAddressed, IsSafe, IsSound, IsSoundWorld}
 use Rattle.ba_runs.specs.World.{Mail, Net, Occasion, World, WorldNode, answer, delivers, letter, net_of, node_at, own, ticks}
@@ -13,7 +13,7 @@ use Rattle.ba_runs.specs.WorldSteps.{BringsInput, IsPossible, Moves, WorldStep, 
 use Rattle.ba_runs.proofs.Addressed.{cause_of}
 use Rattle.ba_runs.proofs.AddressedRuns.{run_addressed}
 use Rattle.ba_runs.proofs.Generations.{run_generations}
-use Rattle.ba_runs.proofs.LinksKept.{links_fit, links_step}
+use Rattle.ba_runs.proofs.LinksKept.{links_fit, links_stay_on, links_step}
 use Rattle.ba_runs.proofs.MailLemmas.{addressed}
 use Rattle.ba_runs.proofs.Nets.{net_moves}
 use Rattle.ba_runs.proofs.Owners.{fits_here}
@@ -65,6 +65,9 @@ links_move w w2 k o joined moves sound =
     links_step w w2 k o joined moves is c.0 c.1 (subst (Change (cause_of o) c.0 (node_at w k)) (sym moves.state) c.2)
     sound.trees.generations
 
+pub links_stay_there : (w w2 : Net) (k : ℕ) (o : Occasion) (joined : Bool) → Moves w w2 k o joined → IsSound w → LinksStay w w2
+links_stay_there w w2 k o joined moves sound = links_stay_on w w2 k o joined moves sound.addressed
+
 sound_moves : (w w2 : Net) (k : ℕ) (o : Occasion) (joined : Bool) → Moves w w2 k o joined → IsSound w → IsSound w2
 sound_moves w w2 k o joined moves sound = record {
   addressed = addressed w w2 k o joined moves sound.addressed;
@@ -105,13 +108,19 @@ sound_run w before run = record { net = sound_net_run w before run; records = ru
 
 -- where no node moves each link stays
 links_stay : (w : Net) → LinksStep w w
-links_stay w = λ j p k s at. inl (p, s, at, (link_in w j p s, inl refl, inl refl))
+links_stay w = λ j p k s at. inl (p, s, at, (refl, refl), (link_in w j p s, inl refl, inl refl))
 
 pub links_step_in_runs : (w w2 : World) (before : List World) → IsRun (w ∷ before) → WorldStep w w2
     → LinksStep (net_of w) (net_of w2)
 links_step_in_runs w w2 before run step = elim (net_moves w w2 step) [
   | inl same ↦ subst (LinksStep (net_of w)) same (links_stay (net_of w))
   | inr moved ↦ links_move (net_of w) (net_of w2) moved.0 moved.1 moved.2 moved.3 (sound_net_run w before run)
+]
+
+pub links_stay_in_runs : (w w2 : World) (before : List World) → IsRun (w ∷ before) → WorldStep w w2 → LinksStay (net_of w) (net_of w2)
+links_stay_in_runs w w2 before run step = elim (net_moves w w2 step) [
+  | inl same ↦ subst (LinksStay (net_of w)) same (λ j p l r at. (p, r, at, (refl, refl)))
+  | inr moved ↦ links_stay_on (net_of w) (net_of w2) moved.0 moved.1 moved.2 moved.3 (run_addressed w before run)
 ]
 
 pub safe_run : (w : World) (before : List World) → IsRun (w ∷ before) → IsSafe (net_of w)

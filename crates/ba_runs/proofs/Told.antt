@@ -23,12 +23,12 @@ use Rattle.ba_scope.specs.declared.parts.Part.{Part}
 use Rattle.ba_steps.specs.Addresses.{sender_of}
 use Rattle.ba_steps.specs.Node.{Among}
 use Rattle.ba_steps.proofs.Places.{first_is}
-use Rattle.ba_runs.specs.Links.{link_in, side_of}
+use Rattle.ba_runs.specs.Links.{HasEnd, IsLink, link_in, side_of}
 use Rattle.ba_runs.specs.Safety.{IsSound, MailFits, TellsTheWord, of_end, of_part, of_register}
-use Rattle.ba_runs.specs.Words.{HasWord, word_told}
+use Rattle.ba_runs.specs.Words.{HasWord, IsTheWord, word_told}
 use Rattle.ba_runs.specs.World.{Net, letter, participant_at}
 use Rattle.ba_runs.proofs.Letters.{heard_above, heard_below}
-use Rattle.ba_runs.proofs.Owners.{end_id, one_participant, part_id, scope_fits_here, sender_is}
+use Rattle.ba_runs.proofs.Owners.{end_id, one_endpoint, one_participant, one_registration, part_id, scope_fits_here, sender_is}
 use Rattle.ba_runs.proofs.WordLemmas.{has_word, one_word}
 
 -- ---- where a word was sent, the end of the link has it
@@ -118,3 +118,34 @@ module _ (w : Net) (sound : IsSound w) where
   tells_the_word l n v sent says told =
       let word = told_by l n v sent says told (sound.addressed.mail (letter l) sent) in
       record { has = word; no_other = λ u other. one_word w sound (sender_of l.number) v u word other }
+
+  -- ---- the word that a letter tells the participant to which it goes
+
+  told_its_end_by : (j k : ℕ) (p : Part) (s : ScopeState) (e : End) (l : Letter) (n : Notice) (v : Verdict) → IsLink w j p k s
+      → HasEnd w j p s e → Among w.bag (letter l) → l.to ≡ participant_at w j p.id → l.message ≡ message.Notice n
+      → word_told n ≡ Some v → MailFits w (letter l) → sender_of l.number ≡ e.id.0
+  told_its_end_by j k p s e l n v at its sent goes says told (of_register i q has number to other) = absurd cc
+  told_its_end_by j k p s e l n v at its sent goes says told (of_part i q m has number to other) =
+      let under = sound.addressed.endpoints.parts i q has in
+      let own : sender_of l.number ≡ q.id.0 = ap sender_of number ∙ sender_is i (notice_code m) q.id (part_id w sound.addressed i q has) in
+      absurd (no_word_up (link_in w i q under.1).state n v told
+      (sent_fits (link_in w i q under.1) (to_end n) (sound.links i under.0 q under.1 under.2)
+      (heard_above w sound.addressed i q l n sent own says)))
+  told_its_end_by j k p s e l n v at its sent goes says told (of_end i t f m has among number to other) =
+      let known = sound.addressed.endpoints.ends i t f has among in
+      let part = one_endpoint w sound.addressed known.0 j known.1 p known.2.part at.part (sym known.3 ∙ sym to ∙ goes) in
+      let scope = one_registration w sound.addressed i k t s has at.scope
+      (sym known.2.names ∙ ap (λ (x : Part). x.registration) part.1 ∙ at.names) in
+      let there : Among s.ends f = subst (λ (x : ScopeState). Among x.ends f) scope.1 among in
+      let one : f ≡ e =
+      one_participant s.ends f e (scope_fits_here w sound.addressed k s at.scope).apart there its.0 (sym to ∙ goes ∙ sym its.1) in
+      ap sender_of number ∙ sender_is i (notice_code m) f.id (end_id w sound.addressed i t f has among)
+      ∙ ap (λ (x : End). x.id.0) one
+
+  pub told_its_word : (j k : ℕ) (p : Part) (s : ScopeState) (e : End) (l : Letter) (n : Notice) (v : Verdict) → IsLink w j p k s
+      → HasEnd w j p s e → Among w.bag (letter l) → l.to ≡ participant_at w j p.id → l.message ≡ message.Notice n
+      → word_told n ≡ Some v → IsTheWord w e.id.0 v
+  told_its_word j k p s e l n v at its sent goes says told =
+      subst (λ (i : ℕ). IsTheWord w i v)
+      (told_its_end_by j k p s e l n v at its sent goes says told (sound.addressed.mail (letter l) sent))
+      (tells_the_word l n v sent says told)

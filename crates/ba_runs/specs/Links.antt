@@ -1,9 +1,10 @@
 -- Believe: the links of a world: of each participant and the scope that its registration names; and the end that enrolled
 -- the participant there.
-use Rattle.std.specs.Prelude.{◌≡◌, ◌⊎◌, ℕ, Bool, List, [], Option, None, Some, nat_eq, if◌then◌else◌}
+use Rattle.std.specs.Prelude.{◌≡◌, ◌≢◌, ◌⊎◌, ℕ, Bool, List, [], Option, None, Some, nat_eq, if◌then◌else◌}
 use Rattle.std.specs.List.{filter_map}
 use Rattle.std.specs.Option.{option_map}
 use Rattle.ba_core.specs.declared.codes.Code.TheVariants as code
+use Rattle.ba_core.specs.declared.identifiers.Id.{Id}
 use Rattle.ba_core.specs.declared.protocols.Protocol.{Protocol}
 use Rattle.ba_link.specs.Link as link
 use Rattle.ba_link.specs.Link.{Link, LinkState, LinkStep, refused_for_good, refused_for_now, register, registered, registering_link, to_end, to_part}
@@ -93,16 +94,31 @@ StepsOrStays a b = (a ≡ b) ⊎ LinkStep a b
 abbrev pub StepsByTwo : Link → Link → Type 0
 StepsByTwo a c = (b : Link) × StepsOrStays a b × StepsOrStays b c
 
--- the link of p2 and r2 comes from one before the step, by at most two moves
+-- they are the same participant and the same scope, before a step and after it
+abbrev pub AreTheSame : Part → Part → ScopeState → ScopeState → Type 0
+AreTheSame p p2 r r2 = (p2.id ≡ p.id) × (r2.id ≡ r.id)
+
+-- the link of p2 and r2 comes from theirs before the step, by at most two moves
 abbrev pub StepsFrom : Net → Net → ℕ → Part → ℕ → ScopeState → Type 0
 StepsFrom w w2 j p2 l r2 =
-    (p : Part) × (r : ScopeState) × IsLink w j p l r × StepsByTwo (link_in w j p r) (link_in w2 j p2 r2)
+    (p : Part) × (r : ScopeState) × IsLink w j p l r × AreTheSame p p2 r r2 × StepsByTwo (link_in w j p r) (link_in w2 j p2 r2)
 
 -- a new link: its participant is Registering, it has no end, and nothing was sent on it
 abbrev pub Begins : Link → Type 0
 Begins a = (protocol : Protocol) × (sealed : Bool) × (a ≡ registering_link protocol sealed [])
 
--- each link after a step comes from one before it, or it begins
+-- no participant of the node has this identifier
+abbrev pub IsNewAt : Net → ℕ → Id → Type 0
+IsNewAt w j id = (p : Part) → PartAt w j p → p.id ≢ id
+
+-- each link after a step comes from one before it, or it is that of a new participant, and begins
 abbrev pub LinksStep : Net → Net → Type 0
 LinksStep w w2 =
-    (j : ℕ) (p2 : Part) (l : ℕ) (r2 : ScopeState) → IsLink w2 j p2 l r2 → StepsFrom w w2 j p2 l r2 ⊎ Begins (link_in w2 j p2 r2)
+    (j : ℕ) (p2 : Part) (l : ℕ) (r2 : ScopeState) → IsLink w2 j p2 l r2
+    → StepsFrom w w2 j p2 l r2 ⊎ (IsNewAt w j p2.id × Begins (link_in w2 j p2 r2))
+
+-- each link before a step is there after it
+abbrev pub LinksStay : Net → Net → Type 0
+LinksStay w w2 =
+    (j : ℕ) (p : Part) (l : ℕ) (r : ScopeState) → IsLink w j p l r
+    → (p2 : Part) × (r2 : ScopeState) × IsLink w2 j p2 l r2 × AreTheSame p p2 r r2

@@ -58,12 +58,13 @@ TellsTheWord w =
     → IsTheWord w (sender_of l.number) v
 
 -- Each link is as its moves make it: its two states are a possible pair, and what was ever sent on it holds now. Each end
--- has exactly one link, and each participant keeps its own end. Each scope fits, and so does each child its parent. Each
--- participant was told the one word that is recorded for it.
+-- has exactly one link, each participant registers at a scope, and it keeps its own end. Each scope fits, and so does each
+-- child its parent. Each participant was told the one word that is recorded for it.
 pub record IsSafe (w : Net) : Type 0 where
   pub links : (j k : ℕ) (p : Part) (s : ScopeState) → IsLink w j p k s → LinkFits (link_in w j p s)
   pub mail : (m : Mail) → Among w.bag m → MailFits w m
   pub ends : (k : ℕ) (s : ScopeState) (e : End) → ScopeAt w k s → Among s.ends e → HasOneLink w k s e
+  pub registers : (j : ℕ) (p : Part) → PartAt w j p → (k : ℕ) × (s : ScopeState) × IsLink w j p k s
   pub parts : (j : ℕ) (p : Part) → PartAt w j p → IsTrue (part_fits p) × KeepsItsEnd w j p
   pub scopes : (k : ℕ) (s : ScopeState) → ScopeAt w k s → ScopeFits s
   pub trees : TreesFit w

@@ -22,10 +22,10 @@ pub record IsChild (w : Net) (k : ℕ) (s : ScopeState) (upward : Part) (j : ℕ
 abbrev pub HasVerdictAbove : Net → ℕ → Part → ScopeState → Verdict → Type 0
 HasVerdictAbove w k upward t v = (e : End) × HasEnd w k upward t e × (e.verdict ≡ Some v)
 
--- each child has the kind of its parent, and was made after it
+-- each child has the kind of its parent, and scopes can be put in an order in which each child stands behind its parent
 pub record GenerationsFit (w : Net) : Type 0 where
   pub same_kind_above : (k j : ℕ) (s t : ScopeState) (upward : Part) → IsChild w k s upward j t → s.kind ≡ t.kind
-  -- scopes are numbered in the order of their making
+  -- the place of each scope in that order, by its identifier, and a place behind all of them
   pub made_at : ℕ → ℕ
   pub made_so_far : ℕ
   pub made_before_now : (k : ℕ) (s : ScopeState) → ScopeAt w k s → made_at s.id.0 < made_so_far

@@ -258,8 +258,10 @@ module _ (bytes : List ℕ) where
   refused_for : (r : Reason) (n : ℕ) → xml_answer bytes ≡ Err (fault.At r n) → IsRefusedFor bytes r n
   refused_for reason.NotUtf8 n e = (utf8_cause bytes n e, is_first bytes reason.NotUtf8 n e)
   refused_for reason.Syntax n e = (syntax_cause bytes n e, is_first bytes reason.Syntax n e)
-  refused_for reason.Truncated n e =
-      ((taken_free bytes (early_taken bytes n e), λ tree x. refused_none bytes tree (fault.At reason.Truncated n) e x), early_place bytes n e)
+  refused_for reason.Truncated n e = (
+    (taken_free bytes (early_taken bytes n e), λ tree x. refused_none bytes tree (fault.At reason.Truncated n) e x),
+    early_place bytes n e,
+  )
   refused_for reason.Namespace n e =
       ((unexplained bytes n e, owned bytes reason.Namespace n tt e), is_first bytes reason.Namespace n e)
   refused_for reason.Depth n e = ((too_deep bytes n e, owned bytes reason.Depth n tt e), is_first bytes reason.Depth n e)

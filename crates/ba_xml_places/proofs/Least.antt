@@ -1,7 +1,7 @@
 -- No cause comes before the place of the answer, nor at it with a lower number.
-use Rattle.std.proofs.Common.{◌≡◌, ℕ, ◌+◌, ◌<◌, ◌≤◌, suc, Bool, true, false, cond, ◌&&◌, ◌==◌, nat_lt, ◌⊎◌, inl, inr, List, [], ◌∷◌, ◌++◌}
+use Rattle.std.proofs.Common.{◌≡◌, ℕ, ◌+◌, ◌<◌, ◌≤◌, Bool, true, false, cond, ◌&&◌, ◌==◌, nat_lt, ◌⊎◌, inl, inr, List, [], ◌∷◌, ◌++◌}
 use Rattle.std.proofs.Common.{length, take, drop, get_or, refl, sym, ap, subst, ◌∙◌, append_assoc, append-nil, arith, true≢false, Err}
-use Rattle.std.proofs.lemmas.Bool.{eqb-true, cases_lt}
+use Rattle.std.proofs.lemmas.Bool.{eqb-true}
 use Rattle.std.proofs.lemmas.List.{take_more, take-append-drop, length-take-le}
 use Rattle.std.specs.Prelude.{Contains}
 use Rattle.ba_xml_places.proofs.Alive.{IsOfTags, kept_of, no_octets, refused_by}
@@ -22,8 +22,8 @@ use Rattle.ba_xml_reader.proofs.SoundDocuments.{top}
 use Rattle.ba_xml_grammar.specs.Grammar.{Document, written_document, IsDocument}
 use Rattle.ba_xml_grammar.specs.GrammarTexts.{lines, IsOfCharacters, IsWrittenAs}
 use Rattle.ba_xml_grammar.specs.Places.{Standing, document_standings, number_of}
-use Rattle.ba_xml_reader.specs.Machine.{start, run, state_after, line_end, unless_returned, turned, turned_by, turned_from, counted, reason_at}
-use Rattle.ba_xml_reader.specs.Machine.{reason_past, xml_answer}
+use Rattle.ba_xml_reader.specs.Machine.{start, run, state_after, line_end, unless_returned, turned, turned_by, turned_from, counted}
+use Rattle.ba_xml_reader.specs.Machine.{reason_at, reason_past, xml_answer}
 use Rattle.ba_xml_words.specs.inside.Octets.{octet_after}
 use Rattle.ba_xml_words.specs.declared.faults.Reason.{Reason}
 use Rattle.ba_xml_words.specs.declared.faults.Reason.TheVariants as reason
@@ -37,7 +37,6 @@ use Rattle.ba_xml_reader.specs.declared.states.Mode.TheVariants as mode
 use Rattle.ba_xml_reader.specs.declared.states.State.{State}
 use Rattle.ba_xml_reader.specs.declared.states.State.TheVariants as state
 use Rattle.ba_xml_reader.specs.inside.Readings.{Reading, Refused, Going}
-use Rattle.ba_xml_reader.specs.inside.Turns as turn
 
 -- ---- line ends behind bytes that are read
 
@@ -83,7 +82,8 @@ on_state b bs ih (state.Refused x) o taken last n more e =
     absurd (refused_going (reason_at taken x) taken n last (sym (run_refused (reason_at taken x) taken bs) ∙ e))
 on_state b bs ih (state.At outer here m) o taken last n more e = by (nat_lt taken 262144) e
   where
-    by : (q : Bool) → run (cond q (Going (scanned (state.At outer here m) o (b == 13)) (taken + 1)) (Refused reason.Size taken)) bs ≡ Going last n
+    by : (q : Bool)
+        → run (cond q (Going (scanned (state.At outer here m) o (b == 13)) (taken + 1)) (Refused reason.Size taken)) bs ≡ Going last n
         → lines (b == 13) (bs ++ more) ≡ lines (b == 13) bs ++ lines last.returned more
     by true f = ih (scanned (state.At outer here m) o (b == 13)) (taken + 1) last n more f
     by false f = absurd (refused_going reason.Size taken n last (sym (run_refused reason.Size taken bs) ∙ f))
@@ -161,7 +161,8 @@ module _ (bytes : List ℕ) where
   IsRefusedBy q m = (r : Reason) × (n : ℕ) × (run (Going start 0) bytes ≡ Refused r n) × NoLater r n q m
 
   pub run_on : (k : ℕ) (r : Reason) (n : ℕ) → run (Going start 0) (take k bytes) ≡ Refused r n → run (Going start 0) bytes ≡ Refused r n
-  run_on k r n e = ap (λ x. run (Going start 0) x) (sym (take-append-drop k bytes)) ∙ run_append (Going start 0) (take k bytes) (drop k bytes)
+  run_on k r n e = ap (λ x. run (Going start 0) x) (sym (take-append-drop k bytes))
+      ∙ run_append (Going start 0) (take k bytes) (drop k bytes)
       ∙ ap (λ x. run x (drop k bytes)) e ∙ run_refused r n (drop k bytes)
 
   module _ (m : ℕ) (inside : m < length bytes) where

@@ -7,6 +7,7 @@ pub mod Earlier
 pub mod Elements
 pub mod Ends
 pub mod Exact
+pub mod Examples
 pub mod Headings
 pub mod Leads
 pub mod Least

@@ -7,7 +7,8 @@ use Rattle.ba_xml_grammar.specs.Grammar.{Encoding, no_encoding, encoding, Standa
 use Rattle.ba_xml_grammar.specs.Grammar.{written_value, written_quoted, written_attribute, written_pair, written_pairs, written_tag}
 use Rattle.ba_xml_grammar.specs.Grammar.{written_end, written_comment, written_section, written, written_misc, written_saying}
 use Rattle.ba_xml_grammar.specs.Grammar.{written_encoding, yes_or_no, written_standalone, written_heading, written_mark}
-use Rattle.ba_xml_grammar.specs.GrammarWords.{IsName, IsPlainName, written_name, written_prefix, Reference, reference_text, written_reference}
+use Rattle.ba_xml_grammar.specs.GrammarWords.{IsName, IsPlainName, written_name, written_prefix, Reference, reference_text}
+use Rattle.ba_xml_grammar.specs.GrammarWords.{written_reference}
 use Rattle.ba_xml_words.specs.declared.names.RawName.{RawName}
 
 -- ---- what is written, and what follows it
@@ -189,7 +190,8 @@ one_less x y l = omega (arith, l)
 pub written_longer : (p : Pieces) (rest : List ℕ) → length rest ≤ length (written p rest)
 written_longer nothing rest = omega arith
 written_longer (character b more) rest = one_more (length rest) (length (written more rest)) (written_longer more rest)
-written_longer (reference r more) rest = at_most (length rest) (length (written more rest)) (length (written_reference r (written more rest)))
+written_longer (reference r more) rest = at_most (length rest) (length (written more rest))
+    (length (written_reference r (written more rest)))
     (written_longer more rest) (part_longer (written_reference r) (part_reference r) (written more rest))
 written_longer (section body more) rest = at_most (length rest) (length (written more rest))
     (length (written_section body (written more rest)))
@@ -206,4 +208,5 @@ written_longer (element s inside space more) rest =
     (at_most (length (written more rest)) (length last) (length (written (element s inside space more) rest))
     (end_longer s.name space (written more rest))
     (at_most (length last) (length (written inside last)) (length (written (element s inside space more) rest)) (written_longer inside last)
-    (one_less (length (written inside last)) (length (written_tag s (62 ∷ written inside last))) (tag_longer s (62 ∷ written inside last)))))
+    (one_less (length (written inside last)) (length (written_tag s (62 ∷ written inside last)))
+    (tag_longer s (62 ∷ written inside last)))))

@@ -1,6 +1,6 @@
 -- The start tags of a document as causes: which bytes each leaves, and that those of later tags are fewer.
-use Rattle.std.proofs.Common.{◌≡◌, ℕ, ◌+◌, ◌<◌, ◌≤◌, zero, suc, ◌⊎◌, inl, inr, Option, Some, None, List, [], ◌∷◌, ◌++◌, length, get_or, refl, sym}
-use Rattle.std.proofs.Common.{ap, ◌∙◌, subst, length-append, arith}
+use Rattle.std.proofs.Common.{◌≡◌, ℕ, ◌+◌, ◌<◌, ◌≤◌, zero, suc, ◌⊎◌, inl, inr, Option, Some, None, List, [], ◌∷◌, ◌++◌, length, get_or}
+use Rattle.std.proofs.Common.{refl, sym, ap, ◌∙◌, subst, length-append, arith}
 use Rattle.std.proofs.lemmas.List.Elements.{Contains-push, Contains-append_left, Contains-append_right}
 use Rattle.std.specs.Prelude.{Contains}
 use Rattle.ba_xml_places.proofs.Parts.{at_most, attribute_strict, pairs_longer, from_pair, space_longer, pairs_in_tag, name_in_tag}
@@ -148,7 +148,8 @@ pub behind_attribute : (s : Start) (a : Pair) (more : List Pair) (closing : List
 behind_attribute s a more closing =
     shorter (length closing) (length (written_pairs more (s.space ++ closing)))
     (length (written_attribute a (written_pairs more (s.space ++ closing))))
-    (at_most (length closing) (length (s.space ++ closing)) (length (written_pairs more (s.space ++ closing))) (space_longer s.space closing)
+    (at_most (length closing) (length (s.space ++ closing)) (length (written_pairs more (s.space ++ closing)))
+    (space_longer s.space closing)
     (pairs_longer more (s.space ++ closing)))
     (attribute_strict a (written_pairs more (s.space ++ closing)))
 
@@ -169,14 +170,16 @@ module _ (level : ℕ) (sc : List Declaration) (s : Start) (closing : List ℕ) 
   attribute_within : (first : List Pair) (a : Pair) (more : List Pair) → s.pairs ≡ first ++ a ∷ more
       → length (written_attribute a (written_pairs more (s.space ++ closing))) ≤ length (written_pairs s.pairs (s.space ++ closing))
   attribute_within first a more e =
-      subst (λ x. length (written_attribute a (written_pairs more (s.space ++ closing))) ≤ length (written_pairs x (s.space ++ closing))) (sym e)
+      subst (λ x. length (written_attribute a (written_pairs more (s.space ++ closing))) ≤ length (written_pairs x (s.space ++ closing)))
+      (sym e)
       (from_pair first a more (s.space ++ closing))
 
   pub within_tag : (q : Reason) (l : List ℕ) → IsCauseAt q here l → length l ≤ length (written_tag s closing)
   within_tag reason.Namespace l i = subst (λ x. length x ≤ length (written_tag s closing)) (sym i.1) (tag_longer s closing)
   within_tag reason.Depth l i = subst (λ x. length x ≤ length (written_tag s closing)) (sym i.1) (omega arith)
   within_tag reason.Attributes l i = subst (λ x. length x ≤ length (written_tag s closing)) (sym i.5)
-      (at_most (length (written_attribute i.1 (written_pairs i.2 (s.space ++ closing)))) (length (written_pairs s.pairs (s.space ++ closing)))
+      (at_most (length (written_attribute i.1 (written_pairs i.2 (s.space ++ closing))))
+      (length (written_pairs s.pairs (s.space ++ closing)))
       (length (written_tag s closing)) (attribute_within i.0 i.1 i.2 i.3) (pairs_in_tag s closing))
   within_tag _ l i = absurd i
 
@@ -187,7 +190,8 @@ module _ (level : ℕ) (sc : List Declaration) (s : Start) (closing : List ℕ) 
       (behind_pairs s closing) (name_in_tag s t.0 closing)))
   deep_first t reason.Depth l i = inr (i.1, refl)
   deep_first t reason.Attributes l i = inl (subst (λ x. length x < length (written_tag s closing)) (sym i.5)
-      (shorter (length (written_attribute i.1 (written_pairs i.2 (s.space ++ closing)))) (length (written_pairs s.pairs (s.space ++ closing)))
+      (shorter (length (written_attribute i.1 (written_pairs i.2 (s.space ++ closing))))
+      (length (written_pairs s.pairs (s.space ++ closing)))
       (length (written_tag s closing)) (attribute_within i.0 i.1 i.2 i.3) (name_in_tag s t.0 closing)))
   deep_first t _ l i = absurd i
 
@@ -302,7 +306,8 @@ pub pieces_within : (level : ℕ) (sc : List Declaration) (p : Pieces) (rest : L
     → AreWithin (standings level sc p rest) (length (written p rest))
 pieces_within level sc nothing rest = none_within (length rest)
 pieces_within level sc (character b more) rest =
-    wider (standings level sc more rest) (length (written more rest)) (suc (length (written more rest))) (one_more (length (written more rest)))
+    wider (standings level sc more rest) (length (written more rest)) (suc (length (written more rest)))
+    (one_more (length (written more rest)))
     (pieces_within level sc more rest)
 pieces_within level sc (reference r more) rest =
     wider (standings level sc more rest) (length (written more rest)) (length (written_reference r (written more rest)))

@@ -1,7 +1,7 @@
 -- Where the machine stops over a document, whatever its prefixes mean and its size: nowhere, or at a start tag that is the cause.
 use Rattle.std.proofs.Common.{◌≡◌, ℕ, ◌+◌, ◌<◌, ◌≤◌, suc, Bool, true, false, cond, nat_lt, ◌⊎◌, inl, inr, Option, Some, None, List, [], ◌∷◌}
 use Rattle.std.proofs.Common.{◌++◌, map}
-use Rattle.std.proofs.Common.{length, codes, encode_utf8, refl, sym, ap, ◌∙◌, subst, append_assoc, append-nil, length-append, arith}
+use Rattle.std.proofs.Common.{length, encode_utf8, refl, sym, ap, ◌∙◌, subst, append_assoc, append-nil, length-append, arith}
 use Rattle.std.proofs.lemmas.Bool.{ltb-true, ltb-false}
 use Rattle.std.proofs.lemmas.List.{map-append, length-map}
 use Rattle.std.proofs.lemmas.List.Elements.{Contains-append_left, Contains-append_right}
@@ -29,20 +29,18 @@ use Rattle.ba_xml_words.specs.inside.Names.{one_letter, spelled}
 use Rattle.ba_xml_names.specs.Namespaces.{opening, scope, first_scope}
 use Rattle.ba_xml_names.specs.inside.Tags.{with_attribute}
 use Rattle.ba_xml_reader.specs.inside.Tags.{tag_name_by, slashed_at, opened_at}
-use Rattle.ba_xml_grammar.specs.Grammar.{Value, value_end, value_character, value_reference, Pair, Start, Pieces, nothing, character}
+use Rattle.ba_xml_grammar.specs.Grammar.{Pair, Start, Pieces, nothing, character}
 use Rattle.ba_xml_grammar.specs.Grammar.{reference, section}
-use Rattle.ba_xml_grammar.specs.Grammar.{comment, empty, element, Misc, misc_end, misc_space, misc_comment, Saying, Encoding, no_encoding}
-use Rattle.ba_xml_grammar.specs.Grammar.{encoding}
-use Rattle.ba_xml_grammar.specs.Grammar.{Standalone, no_standalone, standalone, Head, no_head, head, Document, written_value}
+use Rattle.ba_xml_grammar.specs.Grammar.{comment, empty, element, Misc}
+use Rattle.ba_xml_grammar.specs.Grammar.{Head, Document}
 use Rattle.ba_xml_grammar.specs.Grammar.{written_quoted}
 use Rattle.ba_xml_grammar.specs.Grammar.{written_attribute, written_pair, written_pairs, written_tag, written_end, written_comment}
 use Rattle.ba_xml_grammar.specs.Grammar.{written_section}
-use Rattle.ba_xml_grammar.specs.Grammar.{written, written_misc, written_saying, written_encoding, yes_or_no, written_standalone}
+use Rattle.ba_xml_grammar.specs.Grammar.{written, written_misc}
 use Rattle.ba_xml_grammar.specs.Grammar.{written_heading}
 use Rattle.ba_xml_grammar.specs.Grammar.{written_mark, written_document, attribute, tag, meant, or_nothing, meaning, element_tree, row}
 use Rattle.ba_xml_grammar.specs.Grammar.{ArePairs, IsStart, Allowed, IsMisc, IsRoot, IsHeading, IsDocument}
-use Rattle.ba_xml_grammar.specs.GrammarWords.{IsName, IsPrefix, IsPlainName, IsWhite, Nowhere, written_name, written_prefix, Reference}
-use Rattle.ba_xml_grammar.specs.GrammarWords.{reference_text}
+use Rattle.ba_xml_grammar.specs.GrammarWords.{IsName, IsPrefix, IsPlainName, IsWhite, Nowhere, written_name, written_prefix}
 use Rattle.ba_xml_grammar.specs.GrammarWords.{written_reference, character_of}
 use Rattle.ba_xml_grammar.specs.Places.{Standing, standing, standings, document_standings}
 use Rattle.ba_xml_words.specs.declared.classes.Class.TheVariants as class
@@ -327,7 +325,8 @@ no_less : (x y : ℕ) → x < y → x ≤ y
 no_less x y l = omega (arith, l)
 
 start_or : (level : ℕ) (outer : List Level) (here : Level) (from : State) (s : Start) (rest : List ℕ) → level ≤ 32
-    → Firsts outer here from → IsStart s → Or (stands level outer here s (62 ∷ rest) ∷ []) from (written_tag s (62 ∷ rest)) (opened_state outer here s) rest
+    → Firsts outer here from → IsStart s
+    → Or (stands level outer here s (62 ∷ rest) ∷ []) from (written_tag s (62 ∷ rest)) (opened_state outer here s) rest
 start_or level outer here from s rest h f t = by (tag_or outer here from s (62 ∷ rest) f t greater_breaks)
   where
     closes : length rest < length (62 ∷ rest)
@@ -370,13 +369,15 @@ start_or level outer here from s rest h f t = by (tag_or outer here from s (62 �
     )
 
 empty_or : (level : ℕ) (outer : List Level) (here : Level) (from : State) (s : Start) (rest : List ℕ) → level ≤ 32
-    → Firsts outer here from → IsStart s → Or (stands level outer here s (47 ∷ 62 ∷ rest) ∷ []) from (written_tag s (47 ∷ 62 ∷ rest)) (emptied_state outer here s) rest
+    → Firsts outer here from → IsStart s
+    → Or (stands level outer here s (47 ∷ 62 ∷ rest) ∷ []) from (written_tag s (47 ∷ 62 ∷ rest)) (emptied_state outer here s) rest
 empty_or level outer here from s rest h f t = by (tag_or outer here from s (47 ∷ 62 ∷ rest) f t slash_breaks)
   where
     closes : length rest < length (47 ∷ 62 ∷ rest)
     closes = omega arith
 
-    by_opening : (sp : Bool) → stop from (written_tag s (47 ∷ 62 ∷ rest)) ≡ stop (in_tag outer here (tag s) sp) (47 ∷ 62 ∷ rest) → length s.pairs ≤ 32
+    by_opening : (sp : Bool) → stop from (written_tag s (47 ∷ 62 ∷ rest)) ≡ stop (in_tag outer here (tag s) sp) (47 ∷ 62 ∷ rest)
+        → length s.pairs ≤ 32
         → (o : Option Opening) → opening (scope (here ∷ outer)) (tag s) ≡ o
         → Or (stands level outer here s (47 ∷ 62 ∷ rest) ∷ []) from (written_tag s (47 ∷ 62 ∷ rest)) (emptied_state outer here s) rest
     by_opening sp e n None q = inr (
@@ -475,7 +476,8 @@ element_or level outer here from s inside space rest h f t w inner =
     (end_longer s.name space rest) (written_longer inside (written_end s.name space rest)))
     (start_or level outer here from s (written inside (written_end s.name space rest)) h f t)
     (next us [] us (opened_state outer here s) (At (settled here ∷ outer) last (mode.Inside inner.0)) (element_state outer here s inside)
-    (written inside (written_end s.name space rest)) (written_end s.name space rest) rest (λ u c. c) (λ u c. absurd (nothing_in u c)) (λ u c. inl c)
+    (written inside (written_end s.name space rest)) (written_end s.name space rest) rest (λ u c. c)
+    (λ u c. absurd (nothing_in u c)) (λ u c. inl c)
     (none_within (length (written_end s.name space rest))) (end_longer s.name space rest) inner.1
     (inl (
       runs (written_end s.name space) (part_end s.name space) (At (settled here ∷ outer) last (mode.Inside inner.0))

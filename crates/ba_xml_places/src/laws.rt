@@ -1,8 +1,8 @@
 //! What holds of the places at which bytes are refused, as laws over all bytes.
-ghost use Rattle.std.specs.Prelude.{◌≡◌, ◌≢◌, ◌≤◌, ◌<◌, ◌+◌, ℕ, List, take, Result, Ok, Err};
+ghost use Rattle.std.specs.Prelude.{◌≡◌, ◌≢◌, ◌≤◌, ◌<◌, ◌+◌, ◌∷◌, ◌++◌, ℕ, List, take, codes, Result, Ok, Err};
 ghost use Rattle.ba_tree.specs.declared.trees.Tree.{Tree};
 ghost use Rattle.ba_xml_grammar.specs.GrammarTexts.{CanContinue};
-ghost use Rattle.ba_xml_grammar.specs.Places.{IsCause, IsDead};
+ghost use Rattle.ba_xml_grammar.specs.Places.{IsCause, IsDead, IsAnswerOf};
 ghost use Rattle.ba_xml_places.specs.Answers.{IsAnswerTo};
 ghost use Rattle.ba_xml_places.specs.Limits.{IsOfLimits};
 ghost use Rattle.ba_xml_places.specs.Taken.{IsTaken};
@@ -56,4 +56,12 @@ pub fn answers_are_those_of_the_table()
     ensures answer { (bytes : List ℕ) → IsAnswerTo bytes (xml_answer bytes) }
     ensures one { (bytes : List ℕ) (answer other : Result Tree XmlFault) → IsAnswerTo bytes answer → IsAnswerTo bytes other
         → answer ≡ other }
+{}
+
+/// Where the end of a start tag, or a name in it, follows a line end of two bytes, the causes that count from bytes of the
+/// text find the tag at the line feed too, as here. The answer is the byte's own place, and so not the least of those.
+pub fn a_line_feed_is_no_place_of_a_tag()
+    ensures cause { IsCause (codes "<p:a" ++ 13 ∷ 10 ∷ codes "/>") Reason.Namespace 5 }
+    ensures answer { xml_answer (codes "<p:a" ++ 13 ∷ 10 ∷ codes "/>") ≡ Err (fault.At Reason.Namespace 6) }
+    ensures none { IsAnswerOf (codes "<p:a" ++ 13 ∷ 10 ∷ codes "/>") (xml_answer (codes "<p:a" ++ 13 ∷ 10 ∷ codes "/>")) → ⊥ }
 {}

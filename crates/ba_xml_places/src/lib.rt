@@ -5,6 +5,7 @@
 mod laws;
 
 pub use laws::{
-    answers_are_those_of_the_table, every_place_is_of_the_table, limits_come_before_dead_places,
-    no_dead_place_is_passed, what_ends_too_early_can_be_continued, what_is_taken_can_be_continued,
+    a_line_feed_is_no_place_of_a_tag, answers_are_those_of_the_table, every_place_is_of_the_table,
+    limits_come_before_dead_places, no_dead_place_is_passed, what_ends_too_early_can_be_continued,
+    what_is_taken_can_be_continued,
 };
