@@ -205,4 +205,5 @@ module _ (w w2 : Net) (k : ℕ) (o : Occasion) (joined : Bool) (moves : Moves w 
       let same : link_of (link_state q (participant_at w j p.id) t) (sent_on w j p ++ joining joined (said_on w j p sends))
       ≡ link_in w2 j q t =
       (λ i. link_of (link_state q (endpoint_stays w w2 k o joined moves is j p q part.2 i) t) (sym (sent_after j p q part.2) i)) in
-      (p, s, was, (part.2, scope.2), subst (StepsByTwo (link_in w j p s)) same (by_sides speech mover spoken j l p q s t fit was part.3 scope.3))
+      let steps = by_sides speech mover spoken j l p q s t fit was part.3 scope.3 in
+      (p, s, was, (part.2, scope.2), subst (StepsByTwo (link_in w j p s)) same steps)

@@ -48,8 +48,8 @@ takes w k o joined possible room =
       mode = ap (λ (n : WorldNode). n.mode) here;
     }
 
-pub can_happen : (w : World) (k : ℕ) (o : Occasion) → (w.nodes k).mode ≡ is_up → IsPossible (net_of w) k o → HasSpareCounters (w.nodes k).state
-    → (w2 : World) × WorldStep w w2 × Takes w w2 k o true
+pub can_happen : (w : World) (k : ℕ) (o : Occasion) → (w.nodes k).mode ≡ is_up → IsPossible (net_of w) k o
+    → HasSpareCounters (w.nodes k).state → (w2 : World) × WorldStep w w2 × Takes w w2 k o true
 can_happen w k o up possible room =
     let step = takes w k o true possible room in (world_after w k o true, happens k o up step, step)
 

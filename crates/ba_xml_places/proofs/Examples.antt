@@ -1,9 +1,9 @@
 -- By hand: a line end of two bytes in a tag that no declarations explain, which the table alone finds at two places.
-use Rattle.std.proofs.Common.{◌≡◌, ℕ, ◌+◌, ◌<◌, ◌≤◌, false, ◌⊎◌, inl, inr, None, Err, List, [], ◌∷◌, ◌++◌, codes, refl, subst, arith}
+use Rattle.std.proofs.Common.{◌≡◌, ℕ, ◌<◌, ◌≤◌, false, ◌⊎◌, inl, inr, None, Err, List, [], ◌∷◌, ◌++◌, codes, refl, subst, arith}
 use Rattle.std.specs.Char.{encode_utf8}
 use Rattle.ba_xml_grammar.specs.Grammar.{Start, nothing, empty, misc_end, no_head, Document, IsDocument, tag}
 use Rattle.ba_xml_grammar.specs.GrammarTexts.{IsOfCharacters}
-use Rattle.ba_xml_grammar.specs.Places.{standing, IsCause, IsLeast, IsAnswerOf}
+use Rattle.ba_xml_grammar.specs.Places.{standing, IsCause, IsAnswerOf}
 use Rattle.ba_xml_names.specs.Namespaces.{opening, first_scope}
 use Rattle.ba_xml_reader.specs.Machine.{run, reading_after, state_after, xml_answer}
 use Rattle.ba_xml_words.specs.Classes.{class_of, mark_of}
