@@ -4,6 +4,3 @@
 mod checks;
 
 pub use checks::{CheckFault, MOST_TEXT, check};
-
-#[cfg(test)]
-mod tests;

@@ -20,6 +20,3 @@ pub use numbers::number_of;
 pub use protocols::{Kind, Protocol, Side, Verdict};
 pub use rows::{CRow, PRow};
 pub use states::{CState, How, PState, StateName, c_name, p_name};
-
-#[cfg(test)]
-mod tests;

@@ -11,6 +11,3 @@ pub use bodies::Body;
 pub use faults::WriteFault;
 pub use requests::write_request;
 pub use responses::write_response;
-
-#[cfg(test)]
-mod tests;

@@ -21,14 +21,3 @@ pub use faults::JournalFault;
 pub use journals::{GREATEST_LENGTH, Journal};
 pub use scanning::scan;
 pub use scans::{Scan, ScanFault};
-
-#[cfg(test)]
-mod append_tests;
-#[cfg(test)]
-mod life_tests;
-#[cfg(test)]
-mod load_tests;
-#[cfg(test)]
-mod reading_tests;
-#[cfg(test)]
-mod tests;

@@ -7,6 +7,3 @@ mod words;
 
 pub use journals::{ListFault, MOST_FILE, journal};
 pub use lines::{list, put_end, put_line};
-
-#[cfg(test)]
-mod tests;

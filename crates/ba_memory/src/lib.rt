@@ -17,8 +17,3 @@ pub use mem_disks::MemDisk;
 pub use outs::Out;
 pub use script_links::ScriptLink;
 pub use texts::Text;
-
-#[cfg(test)]
-mod disk_tests;
-#[cfg(test)]
-mod tests;

@@ -13,6 +13,3 @@ pub use endpoints::{
 };
 pub use laws::{own_endpoints_fit, tests_of_endpoints_are_exact};
 pub use messages::{Context, Letter, MOST_IDENTIFIER_BYTES, Message};
-
-#[cfg(test)]
-mod tests;

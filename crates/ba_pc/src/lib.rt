@@ -8,6 +8,3 @@ mod part;
 pub use ba_core::{CRow, PRow};
 pub use end::{c_choose, c_receive, c_tick};
 pub use part::{p_act, p_receive, p_says};
-
-#[cfg(test)]
-mod tests;

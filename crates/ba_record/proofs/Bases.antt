@@ -76,7 +76,8 @@ free_of base is =
     let host = no_slashes is_host_byte refl d.host d.is_host.0 in
     let port = port_without_slash d.port d.is_port in
     let path : list_all is_no_slash d.path ≡ true = ap (list_all is_no_slash) is.pathless in
-    ap (list_all is_no_slash) rest ∙ all_of_both is_no_slash d.host (d.port ++ d.path) host (all_of_both is_no_slash d.port d.path port path)
+    ap (list_all is_no_slash) rest
+    ∙ all_of_both is_no_slash d.host (d.port ++ d.path) host (all_of_both is_no_slash d.port d.path port path)
 
 pub tests_by_base : (base : List ℕ) → IsBase base → is_base base ≡ true
 unfolding is_base
@@ -86,7 +87,8 @@ tests_by_base base is =
 -- ---- for the code
 
 -- an answer that tells whether something passes tests which tell the same
-told_by : {P : Type 0} (answer test : Bool) → (answer ≡ true → P) → (P → answer ≡ true) → (test ≡ true → P) → (P → test ≡ true) → answer ≡ test
+told_by : {P : Type 0} (answer test : Bool) → (answer ≡ true → P) → (P → answer ≡ true) → (test ≡ true → P) → (P → test ≡ true)
+    → answer ≡ test
 told_by true true to from by back = refl
 told_by false false to from by back = refl
 told_by true false to from by back = sym (back (to refl))
@@ -97,13 +99,15 @@ tells_fit e answer is = told_by answer (fits_endpoint e) is.0 is.1 (fits_by_test
 
 no_slash_is : (bytes : List ℕ) → not (list_any (λ b. b == 0x2F) bytes) ≡ list_all is_no_slash bytes
 no_slash_is [] = refl
-no_slash_is (b ∷ bytes) = neither (b == 0x2F) (list_any (λ x. x == 0x2F) bytes) ∙ ap (λ (t : Bool). not (b == 0x2F) && t) (no_slash_is bytes)
+no_slash_is (b ∷ bytes) =
+    neither (b == 0x2F) (list_any (λ x. x == 0x2F) bytes) ∙ ap (λ (t : Bool). not (b == 0x2F) && t) (no_slash_is bytes)
   where
     neither : (s t : Bool) → not (s || t) ≡ (not s && not t)
     neither true t = refl
     neither false t = refl
 
-pub tells_base : (base rest : List ℕ) (dialed slash : Bool) → base ≡ codes "http://" ++ rest → (dialed ≡ true → IsDialable base) × (IsDialable base → dialed ≡ true)
+pub tells_base : (base rest : List ℕ) (dialed slash : Bool) → base ≡ codes "http://" ++ rest → (dialed ≡ true → IsDialable base)
+    × (IsDialable base → dialed ≡ true)
     → slash ≡ list_any (λ b. b == 0x2F) rest → (dialed && not slash) ≡ is_base base
 tells_base base rest dialed slash spelled is any =
     let free : not slash ≡ list_all is_no_slash rest = ap not any ∙ no_slash_is rest in
@@ -112,14 +116,20 @@ tells_base base rest dialed slash spelled is any =
     let d = is.0 (first_so dialed (not slash) h) in
     let same : rest ≡ d.host ++ (d.port ++ d.path) = ap (drop 7) (sym spelled ∙ d.spelled) in
     let all : list_all is_no_slash rest ≡ true = sym free ∙ second_so dialed (not slash) h in
-    record { dialable = d; pathless = path_with_slash d.path d.is_path (all_behind is_no_slash d.port d.path (all_behind is_no_slash d.host (d.port ++ d.path) (sym (ap (list_all is_no_slash) same) ∙ all))) })
+    record {
+      dialable = d;
+      pathless = path_with_slash d.path d.is_path
+          (all_behind is_no_slash d.port d.path
+          (all_behind is_no_slash d.host (d.port ++ d.path) (sym (ap (list_all is_no_slash) same) ∙ all)));
+    })
     (λ b. both dialed (not slash) (is.1 b.dialable) (free ∙ ap (list_all is_no_slash) (ap (drop 7) (sym spelled)) ∙ free_of base b))
     (base_by_tests base) (tests_by_base base)
 
 -- what can't be dialed is no base
 pub no_base : (base : List ℕ) (answer : Bool) → answer ≡ false → (IsDialable base → answer ≡ true) → answer ≡ is_base base
 no_base base answer fails is =
-    told_by answer (is_base base) (λ (h : answer ≡ true). absurd (true≢false (sym h ∙ fails))) (λ b. is b.dialable) (base_by_tests base) (tests_by_base base)
+    told_by answer (is_base base) (λ (h : answer ≡ true). absurd (true≢false (sym h ∙ fails))) (λ b. is b.dialable) (base_by_tests base)
+    (tests_by_base base)
 
 -- nor is what has another scheme
 pub other_scheme : (base : List ℕ) → (bytes_eq (take 7 base) (codes "http://") ≡ false) → false ≡ is_base base

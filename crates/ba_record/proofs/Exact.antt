@@ -14,7 +14,8 @@ use Rattle.ba_record.specs.Reading.{IsBytes, Reading, read, bad, short, onward, 
 pub bytes_after : (front rest bytes : List ℕ) → IsBytes bytes → bytes ≡ front ++ rest → IsBytes rest
 bytes_after front rest bytes are is i =
     let behind : drop (length front) bytes ≡ rest = ap (drop (length front)) is ∙ drop-append_seam front rest in
-    let at : get_or rest i 0 ≡ get_or bytes (length front + i) 0 = ap (λ xs. get_or xs i 0) (sym behind) ∙ get_or-drop (length front) bytes i 0 in
+    let at : get_or rest i 0 ≡ get_or bytes (length front + i) 0 =
+    ap (λ xs. get_or xs i 0) (sym behind) ∙ get_or-drop (length front) bytes i 0 in
     let small : get_or bytes (length front + i) 0 < 256 = are (length front + i) in
     omega arith
 
@@ -32,7 +33,8 @@ pub record IsExact {A : Type 0} (f : List ℕ → Reading A) (coding : A → Lis
   pub complete : (a : A) (rest : List ℕ) → R a → f (coding a ++ rest) ≡ read a rest
 
 -- how the bytes went on behind a value
-pub record Went {A B : Type 0} (coding : A → List ℕ) (R : A → Type 0) (bytes : List ℕ) (next : A → List ℕ → Reading B) (b : B) (out : List ℕ) : Type 0 where
+pub record Went {A B : Type 0} (coding : A → List ℕ) (R : A → Type 0) (bytes : List ℕ) (next : A → List ℕ → Reading B) (b : B)
+    (out : List ℕ) : Type 0 where
   pub value : A
   pub rest : List ℕ
   pub in_range : R value
@@ -40,12 +42,21 @@ pub record Went {A B : Type 0} (coding : A → List ℕ) (R : A → Type 0) (byt
   pub are_bytes : IsBytes rest
   pub on : next value rest ≡ read b out
 
-module _ {A B : Type 0} {f : List ℕ → Reading A} {coding : A → List ℕ} {R : A → Type 0} (exact : IsExact f coding R) (next : A → List ℕ → Reading B) where
-  went_from : (bytes : List ℕ) (b : B) (out : List ℕ) → IsBytes bytes → (reading : Reading A) → f bytes ≡ reading → onward reading next ≡ read b out
+module _ {A B : Type 0} {f : List ℕ → Reading A} {coding : A → List ℕ} {R : A → Type 0} (exact : IsExact f coding R)
+    (next : A → List ℕ → Reading B) where
+  went_from : (bytes : List ℕ) (b : B) (out : List ℕ) → IsBytes bytes → (reading : Reading A) → f bytes ≡ reading
+      → onward reading next ≡ read b out
       → Went coding R bytes next b out
   went_from bytes b out are (read a rest) is e =
       let here = exact.sound bytes rest a are is in
-      record { value = a; rest = rest; in_range = here.0; spelled = here.1; are_bytes = bytes_after (coding a) rest bytes are here.1; on = e }
+      record {
+        value = a;
+        rest = rest;
+        in_range = here.0;
+        spelled = here.1;
+        are_bytes = bytes_after (coding a) rest bytes are here.1;
+        on = e;
+      }
   went_from bytes b out are (bad from) is e = absurd (cc)
   went_from bytes b out are short is e = absurd (cc)
 
@@ -62,11 +73,16 @@ module _ {A B : Type 0} {f : List ℕ → Reading A} {coding : A → List ℕ} {
 
 front_sound : (n : ℕ) (bytes rest xs : List ℕ) → read_front n bytes ≡ read xs rest → (length xs ≡ n) × (bytes ≡ xs ++ rest)
 front_sound n bytes rest xs =
-    cond_both (nat_le n (length bytes)) (read (take n bytes) (drop n bytes)) short (λ r. r ≡ read xs rest → (length xs ≡ n) × (bytes ≡ xs ++ rest))
+    cond_both (nat_le n (length bytes)) (read (take n bytes) (drop n bytes)) short
+    (λ r. r ≡ read xs rest → (length xs ≡ n) × (bytes ≡ xs ++ rest))
     (λ enough e.
     let front : take n bytes ≡ xs = cc in
-    let behind : drop n bytes ≡ rest = cc in
-    (ap length (sym front) ∙ length-take-le n bytes (leb-true n (length bytes) enough), subst (λ (p : List ℕ). bytes ≡ p ++ rest) front (subst (λ (p : List ℕ). bytes ≡ take n bytes ++ p) behind (sym (take-append-drop n bytes)))))
+    let behind : drop n bytes ≡ rest = cc in (
+      ap length (sym front)
+          ∙ length-take-le n bytes (leb-true n (length bytes) enough),
+      subst (λ (p : List ℕ). bytes ≡ p ++ rest) front
+          (subst (λ (p : List ℕ). bytes ≡ take n bytes ++ p) behind (sym (take-append-drop n bytes))),
+    ))
     (λ few e. absurd (cc))
 
 front_complete : (xs rest : List ℕ) → read_front (length xs) (xs ++ rest) ≡ read xs rest
@@ -94,7 +110,8 @@ exact_byte = record { sound = byte_sound; complete = λ n rest small. refl }
 -- a count of one byte
 pub exact_count : IsExact read_byte (to_le_bytes w8) (λ n. n < 256)
 exact_count = record {
-  sound = λ bytes rest n are e. let here = exact_byte.sound bytes rest n are e in (here.0, here.1 ∙ ap (λ (m : ℕ). m ∷ rest) (sym (mod-eq_of_lt here.0)));
+  sound = λ bytes rest n are e. let here =
+      exact_byte.sound bytes rest n are e in (here.0, here.1 ∙ ap (λ (m : ℕ). m ∷ rest) (sym (mod-eq_of_lt here.0)));
   complete = λ n rest small. ap (λ (m : ℕ). read m rest) (mod-eq_of_lt small);
 }
 
@@ -102,9 +119,15 @@ pub digits_are : (bytes digits rest : List ℕ) → IsBytes bytes → bytes ≡ 
 digits_are bytes digits rest are is = bytes_before digits rest (subst IsBytes is are)
 
 pub exact_16 : IsExact (read_number w16) (to_le_bytes w16) (λ n. n < 2 ^ 16)
-exact_16 = record { sound = sound; complete = λ n rest small. goes (exact_front 2) (λ digits after. read (from_le_bytes w16 digits) after) (to_le_bytes w16 n) rest refl ∙ ap (λ (m : ℕ). read m rest) (from_le_bytes-to_le_bytes_2 n small) }
+exact_16 =
+    record {
+      sound = sound;
+      complete = λ n rest small. goes (exact_front 2) (λ digits after. read (from_le_bytes w16 digits) after)
+          (to_le_bytes w16 n) rest refl ∙ ap (λ (m : ℕ). read m rest) (from_le_bytes-to_le_bytes_2 n small);
+    }
   where
-    sound : (bytes rest : List ℕ) (n : ℕ) → IsBytes bytes → read_number w16 bytes ≡ read n rest → (n < 2 ^ 16) × (bytes ≡ to_le_bytes w16 n ++ rest)
+    sound : (bytes rest : List ℕ) (n : ℕ) → IsBytes bytes → read_number w16 bytes ≡ read n rest → (n < 2 ^ 16)
+        × (bytes ≡ to_le_bytes w16 n ++ rest)
     sound bytes rest n are e =
         let g = went (exact_front 2) (λ digits after. read (from_le_bytes w16 digits) after) bytes n rest are e in
         let on : read (from_le_bytes w16 g.value) g.rest ≡ read n rest = g.on in
@@ -117,9 +140,15 @@ exact_16 = record { sound = sound; complete = λ n rest small. goes (exact_front
         (omega (arith, number), g.spelled ∙ (λ i. sym digits i ++ after i))
 
 pub exact_32 : IsExact (read_number w32) (to_le_bytes w32) (λ n. n < 2 ^ 32)
-exact_32 = record { sound = sound; complete = λ n rest small. goes (exact_front 4) (λ digits after. read (from_le_bytes w32 digits) after) (to_le_bytes w32 n) rest refl ∙ ap (λ (m : ℕ). read m rest) (from_le_bytes-to_le_bytes_4 n small) }
+exact_32 =
+    record {
+      sound = sound;
+      complete = λ n rest small. goes (exact_front 4) (λ digits after. read (from_le_bytes w32 digits) after)
+          (to_le_bytes w32 n) rest refl ∙ ap (λ (m : ℕ). read m rest) (from_le_bytes-to_le_bytes_4 n small);
+    }
   where
-    sound : (bytes rest : List ℕ) (n : ℕ) → IsBytes bytes → read_number w32 bytes ≡ read n rest → (n < 2 ^ 32) × (bytes ≡ to_le_bytes w32 n ++ rest)
+    sound : (bytes rest : List ℕ) (n : ℕ) → IsBytes bytes → read_number w32 bytes ≡ read n rest → (n < 2 ^ 32)
+        × (bytes ≡ to_le_bytes w32 n ++ rest)
     sound bytes rest n are e =
         let g = went (exact_front 4) (λ digits after. read (from_le_bytes w32 digits) after) bytes n rest are e in
         let on : read (from_le_bytes w32 g.value) g.rest ≡ read n rest = g.on in
@@ -134,9 +163,15 @@ exact_32 = record { sound = sound; complete = λ n rest small. goes (exact_front
         (omega (arith, number), g.spelled ∙ (λ i. sym digits i ++ after i))
 
 pub exact_64 : IsExact (read_number w64) (to_le_bytes w64) (λ n. n < 2 ^ 64)
-exact_64 = record { sound = sound; complete = λ n rest small. goes (exact_front 8) (λ digits after. read (from_le_bytes w64 digits) after) (to_le_bytes w64 n) rest refl ∙ ap (λ (m : ℕ). read m rest) (from_le_bytes-to_le_bytes_8 n small) }
+exact_64 =
+    record {
+      sound = sound;
+      complete = λ n rest small. goes (exact_front 8) (λ digits after. read (from_le_bytes w64 digits) after)
+          (to_le_bytes w64 n) rest refl ∙ ap (λ (m : ℕ). read m rest) (from_le_bytes-to_le_bytes_8 n small);
+    }
   where
-    sound : (bytes rest : List ℕ) (n : ℕ) → IsBytes bytes → read_number w64 bytes ≡ read n rest → (n < 2 ^ 64) × (bytes ≡ to_le_bytes w64 n ++ rest)
+    sound : (bytes rest : List ℕ) (n : ℕ) → IsBytes bytes → read_number w64 bytes ≡ read n rest → (n < 2 ^ 64)
+        × (bytes ≡ to_le_bytes w64 n ++ rest)
     sound bytes rest n are e =
         let g = went (exact_front 8) (λ digits after. read (from_le_bytes w64 digits) after) bytes n rest are e in
         let on : read (from_le_bytes w64 g.value) g.rest ≡ read n rest = g.on in
@@ -169,7 +204,8 @@ exact_string = record {
         g.spelled ∙ (λ i. to_le_bytes w16 (sym here.0 i) ++ here.1 i) ∙ sym (append_assoc (to_le_bytes w16 (length s)) s rest),
       );
   complete = λ s rest small.
-      ap read_string (append_assoc (to_le_bytes w16 (length s)) s rest) ∙ goes exact_16 read_front (length s) (s ++ rest) small ∙ (exact_front (length s)).complete s rest refl;
+      ap read_string (append_assoc (to_le_bytes w16 (length s)) s rest) ∙ goes exact_16 read_front (length s) (s ++ rest) small
+      ∙ (exact_front (length s)).complete s rest refl;
 }
 
 abbrev pub Each : {A : Type 0} → (A → Type 0) → List A → Type 0
@@ -177,13 +213,17 @@ Each P [] = Unit {0}
 Each P (x ∷ xs) = P x × Each P xs
 
 -- two fields that make one value
-module _ {A B C : Type 0} {f : List ℕ → Reading A} {g : List ℕ → Reading B} {c : A → List ℕ} {d : B → List ℕ} {R : A → Type 0} {S : B → Type 0}
+module _ {A B C : Type 0} {f : List ℕ → Reading A} {g : List ℕ → Reading B} {c : A → List ℕ} {d : B → List ℕ}
+    {R : A → Type 0} {S : B → Type 0}
     (exact_f : IsExact f c R) (exact_g : IsExact g d S) (make : A → B → C) (first : C → A) (second : C → B)
-    (made : (x : C) → make (first x) (second x) ≡ x) (first_of : (a : A) (b : B) → first (make a b) ≡ a) (second_of : (a : A) (b : B) → second (make a b) ≡ b) where
-  pub exact_pair : IsExact (λ bytes. onward (f bytes) (λ a rest. onward (g rest) (λ b after. read (make a b) after))) (λ x. c (first x) ++ d (second x)) (λ x. R (first x) × S (second x))
+    (made : (x : C) → make (first x) (second x) ≡ x) (first_of : (a : A) (b : B) → first (make a b) ≡ a)
+    (second_of : (a : A) (b : B) → second (make a b) ≡ b) where
+  pub exact_pair : IsExact (λ bytes. onward (f bytes) (λ a rest. onward (g rest) (λ b after. read (make a b) after)))
+      (λ x. c (first x) ++ d (second x)) (λ x. R (first x) × S (second x))
   exact_pair = record { sound = sound; complete = complete }
     where
-      sound : (bytes rest : List ℕ) (x : C) → IsBytes bytes → onward (f bytes) (λ a rest. onward (g rest) (λ b after. read (make a b) after)) ≡ read x rest
+      sound : (bytes rest : List ℕ) (x : C) → IsBytes bytes
+          → onward (f bytes) (λ a rest. onward (g rest) (λ b after. read (make a b) after)) ≡ read x rest
           → (R (first x) × S (second x)) × (bytes ≡ (c (first x) ++ d (second x)) ++ rest)
       sound bytes rest x are e =
           let p = went exact_f (λ a rest. onward (g rest) (λ b after. read (make a b) after)) bytes x rest are e in
@@ -194,13 +234,15 @@ module _ {A B C : Type 0} {f : List ℕ → Reading A} {g : List ℕ → Reading
           let a : p.value ≡ first x = sym (first_of p.value q.value) ∙ ap first is in
           let b : q.value ≡ second x = sym (second_of p.value q.value) ∙ ap second is in (
             (subst R a p.in_range, subst S b q.in_range),
-            p.spelled ∙ (λ i. c (a i) ++ q.spelled i) ∙ (λ i. c (first x) ++ (d (b i) ++ after i)) ∙ sym (append_assoc (c (first x)) (d (second x)) rest),
+            p.spelled ∙ (λ i. c (a i) ++ q.spelled i) ∙ (λ i. c (first x) ++ (d (b i) ++ after i))
+                ∙ sym (append_assoc (c (first x)) (d (second x)) rest),
           )
 
       complete : (x : C) (rest : List ℕ) → R (first x) × S (second x)
           → onward (f ((c (first x) ++ d (second x)) ++ rest)) (λ a rest. onward (g rest) (λ b after. read (make a b) after)) ≡ read x rest
       complete x rest in_range =
-          ap (λ bytes. onward (f bytes) (λ a rest. onward (g rest) (λ b after. read (make a b) after))) (append_assoc (c (first x)) (d (second x)) rest)
+          ap (λ bytes. onward (f bytes) (λ a rest. onward (g rest) (λ b after. read (make a b) after)))
+          (append_assoc (c (first x)) (d (second x)) rest)
           ∙ goes exact_f (λ a rest. onward (g rest) (λ b after. read (make a b) after)) (first x) (d (second x) ++ rest) in_range.0
           ∙ goes exact_g (λ b after. read (make (first x) b) after) (second x) rest in_range.1
           ∙ ap (λ y. read y rest) (made x)
@@ -212,7 +254,8 @@ pub record Before {A B : Type 0} (reading : Reading A) (next : A → List ℕ �
   pub is : reading ≡ read value rest
   pub on : next value rest ≡ read b out
 
-pub before : {A B : Type 0} (reading : Reading A) (next : A → List ℕ → Reading B) (b : B) (out : List ℕ) → onward reading next ≡ read b out → Before reading next b out
+pub before : {A B : Type 0} (reading : Reading A) (next : A → List ℕ → Reading B) (b : B) (out : List ℕ)
+    → onward reading next ≡ read b out → Before reading next b out
 before (read a rest) next b out e = record { value = a; rest = rest; is = refl; on = e }
 before (bad from) next b out e = absurd (cc)
 before short next b out e = absurd (cc)
@@ -234,7 +277,8 @@ module _ {A : Type 0} {f : List ℕ → Reading A} {c : A → List ℕ} {R : A �
       let after : q.rest ≡ rest = cc in
       subst (λ (ys : List A). ((length ys ≡ suc n) × Each R ys) × (bytes ≡ joined (map c ys) ++ rest)) same (
         (ap suc ih.0.0, (p.in_range, ih.0.1)),
-        p.spelled ∙ ap (λ (r : List ℕ). c p.value ++ r) ih.1 ∙ (λ i. c p.value ++ (joined (map c q.value) ++ after i)) ∙ sym (append_assoc (c p.value) (joined (map c q.value)) rest),
+        p.spelled ∙ ap (λ (r : List ℕ). c p.value ++ r) ih.1 ∙ (λ i. c p.value ++ (joined (map c q.value) ++ after i))
+            ∙ sym (append_assoc (c p.value) (joined (map c q.value)) rest),
       )
 
   many_complete : (xs : List A) (rest : List ℕ) → Each R xs → read_many f (length xs) (joined (map c xs) ++ rest) ≡ read xs rest
@@ -257,7 +301,8 @@ module _ {A : Type 0} {f : List ℕ → Reading A} {c : A → List ℕ} {R : A �
           let few : length xs < most = subst (λ n. n < most) (sym q.0.0) p.in_range in
           ((few, q.0.1), p.spelled ∙ (λ i. kc (sym q.0.0 i) ++ q.1 i) ∙ sym (append_assoc (kc (length xs)) (joined (map c xs)) rest))
 
-      complete : (xs : List A) (rest : List ℕ) → (length xs < most) × Each R xs → onward (k ((kc (length xs) ++ joined (map c xs)) ++ rest)) (read_many f) ≡ read xs rest
+      complete : (xs : List A) (rest : List ℕ) → (length xs < most) × Each R xs
+          → onward (k ((kc (length xs) ++ joined (map c xs)) ++ rest)) (read_many f) ≡ read xs rest
       complete xs rest in_range =
           ap (λ bytes. onward (k bytes) (read_many f)) (append_assoc (kc (length xs)) (joined (map c xs)) rest)
           ∙ goes exact_k (read_many f) (length xs) (joined (map c xs) ++ rest) in_range.0
@@ -267,7 +312,9 @@ module _ {A : Type 0} {f : List ℕ → Reading A} {c : A → List ℕ} {R : A �
 module _ {A : Type 0} (test : A → Bool) where
   pub passed : (a b : A) (from rest out : List ℕ) → tested test from a rest ≡ read b out → (test b ≡ true) × ((a ≡ b) × (rest ≡ out))
   passed a b from rest out =
-      elim (test a) as (λ v. test a ≡ v → (elim v as (λ x. Reading A) [ true ↦ read a rest | false ↦ bad from ]) ≡ read b out → (test b ≡ true) × ((a ≡ b) × (rest ≡ out))) [
+      elim (test a) as
+      (λ v. test a ≡ v → (elim v as (λ x. Reading A) [ true ↦ read a rest | false ↦ bad from ]) ≡ read b out → (test b ≡ true)
+      × ((a ≡ b) × (rest ≡ out))) [
         | true ↦ λ t e. let same : a ≡ b = cc in let after : rest ≡ out = cc in (subst (λ x. test x ≡ true) same t, (same, after))
         | false ↦ λ t e. absurd (cc)
       ] refl
@@ -303,8 +350,11 @@ module _ {A : Type 0} (code : A → ℕ) (values : List A) where
     sound = λ bytes rest a are e.
         let p = went exact_byte (λ byte after. found bytes (with_code code values byte) after) bytes a rest are e in
         let q = found_is (with_code code values p.value) a bytes p.rest rest p.on in
-        let is = code_of_found values p.value a q.0 in
-        ((subst (λ n. n < 256) (sym is) p.in_range, subst (λ n. with_code code values n ≡ Some a) (sym is) q.0), p.spelled ∙ (λ i. sym is i ∷ q.1 i));
+        let is = code_of_found values p.value a q.0 in (
+          (subst (λ n. n < 256) (sym is) p.in_range, subst (λ n. with_code code values n ≡ Some a) (sym is) q.0),
+          p.spelled
+              ∙ (λ i. sym is i ∷ q.1 i),
+        );
     complete = λ a rest in_range. ap (λ o. found (code a ∷ rest) o rest) in_range.1;
   }
 
@@ -322,7 +372,8 @@ module _ {A : Type 0} {f : List ℕ → Reading A} {c : A → List ℕ} {R : A �
       let on : read (Some p.value) p.rest ≡ read o out = p.on in
       let same : Some p.value ≡ o = cc in
       let after : p.rest ≡ out = cc in
-      subst (λ (x : Option A). IfThere R x × (1 ∷ rest ≡ option_coding c x ++ out)) same (p.in_range, (λ i. 1 ∷ (p.spelled ∙ (λ j. c p.value ++ after j)) i))
+      subst (λ (x : Option A). IfThere R x × (1 ∷ rest ≡ option_coding c x ++ out)) same
+      (p.in_range, (λ i. 1 ∷ (p.spelled ∙ (λ j. c p.value ++ after j)) i))
   optional_sound (suc (suc n)) from rest out o are e = absurd (cc)
 
   option_complete : (o : Option A) (rest : List ℕ) → IfThere R o → read_option f (option_coding c o ++ rest) ≡ read o rest

@@ -37,7 +37,8 @@ use Rattle.ba_record.proofs.Fitting.{in_its_ranges}
 
 -- ---- the same coding and another range
 
-widened : {A : Type 0} {f : List ℕ → Reading A} {c : A → List ℕ} {R S : A → Type 0} → IsExact f c R → ((a : A) → R a → S a) → ((a : A) → S a → R a) → IsExact f c S
+widened : {A : Type 0} {f : List ℕ → Reading A} {c : A → List ℕ} {R S : A → Type 0} → IsExact f c R → ((a : A) → R a → S a)
+    → ((a : A) → S a → R a) → IsExact f c S
 widened exact to from = record {
   sound = λ bytes rest a are e. let here = exact.sound bytes rest a are e in (to a here.0, here.1);
   complete = λ a rest in_range. exact.complete a rest (from a in_range);
@@ -56,7 +57,11 @@ both_true a b ha hb = rw (ha, hb) refl
 
 exact_from_1 : (greatest : ℕ) → greatest < 256 → IsExact (read_from_1 greatest) (λ n. n ∷ []) (IsFrom1 greatest)
 exact_from_1 greatest small = widened (exact_tested exact_byte (λ n. nat_le 1 n && nat_le n greatest))
-    (λ n is. (leb-true 1 n (first_so (nat_le 1 n) (nat_le n greatest) is.1), leb-true n greatest (second_so (nat_le 1 n) (nat_le n greatest) is.1)))
+    (λ n is. (
+      leb-true 1 n (first_so (nat_le 1 n) (nat_le n greatest) is.1),
+      leb-true n greatest
+          (second_so (nat_le 1 n) (nat_le n greatest) is.1),
+    ))
     (λ n is. (omega (arith, is.1), both_true (nat_le 1 n) (nat_le n greatest) (le-leb 1 n is.0) (le-leb n greatest is.1)))
 
 abbrev any : {A : Type 0} → A → Type 0
@@ -86,7 +91,8 @@ act_found act.Fail = (omega arith, refl)
 act_found act.Exit = (omega arith, refl)
 act_found act.CannotComplete = (omega arith, refl)
 
-notice_found : (n : Notice) → IsFrom1 15 (notice_code n) → (notice_code n < 256) × (with_code notice_code plain_notices (notice_code n) ≡ Some n)
+notice_found : (n : Notice) → IsFrom1 15 (notice_code n) → (notice_code n < 256)
+    × (with_code notice_code plain_notices (notice_code n) ≡ Some n)
 notice_found notice.Complete is = (omega arith, refl)
 notice_found notice.Close is = (omega arith, refl)
 notice_found notice.Cancel is = (omega arith, refl)
@@ -145,7 +151,8 @@ length_of_endpoint e fits = let size = fits.size in let long = endpoint_length_i
 pub exact_endpoint : IsExact read_endpoint endpoint_coding Fits
 exact_endpoint = record { sound = sound; complete = complete }
   where
-    front_sound : (bytes rest : List ℕ) (e : Epr) → IsBytes (take MOST_ENDPOINT_BYTES bytes) → (r : Reading Epr) → read_any_endpoint (take MOST_ENDPOINT_BYTES bytes) ≡ r
+    front_sound : (bytes rest : List ℕ) (e : Epr) → IsBytes (take MOST_ENDPOINT_BYTES bytes) → (r : Reading Epr)
+        → read_any_endpoint (take MOST_ENDPOINT_BYTES bytes) ≡ r
         → of_front bytes r ≡ read e rest → Fits e × (bytes ≡ endpoint_coding e ++ rest)
     front_sound bytes rest e are (read a more) is on =
         let here = exact_any_endpoint.sound (take MOST_ENDPOINT_BYTES bytes) more a are is in
@@ -156,11 +163,15 @@ exact_endpoint = record { sound = sound; complete = complete }
         )
     front_sound bytes rest e are (bad from) is on = absurd (cc)
     front_sound bytes rest e are short is on =
-        cond_both (nat_le MOST_ENDPOINT_BYTES (length bytes)) (bad bytes) short (λ r. r ≡ read e rest → Fits e × (bytes ≡ endpoint_coding e ++ rest)) (λ t no. absurd (cc)) (λ t no. absurd (cc)) on
+        cond_both (nat_le MOST_ENDPOINT_BYTES (length bytes)) (bad bytes) short
+        (λ r. r ≡ read e rest → Fits e × (bytes ≡ endpoint_coding e ++ rest)) (λ t no. absurd (cc)) (λ t no. absurd (cc)) on
 
-    sound : (bytes rest : List ℕ) (e : Epr) → IsBytes bytes → read_endpoint bytes ≡ read e rest → Fits e × (bytes ≡ endpoint_coding e ++ rest)
+    sound : (bytes rest : List ℕ) (e : Epr) → IsBytes bytes → read_endpoint bytes ≡ read e rest → Fits e
+        × (bytes ≡ endpoint_coding e ++ rest)
     sound bytes rest e are is =
-        front_sound bytes rest e (digits_are bytes (take MOST_ENDPOINT_BYTES bytes) (drop MOST_ENDPOINT_BYTES bytes) are (sym (take-append-drop MOST_ENDPOINT_BYTES bytes))) (read_any_endpoint (take MOST_ENDPOINT_BYTES bytes)) refl is
+        front_sound bytes rest e
+        (digits_are bytes (take MOST_ENDPOINT_BYTES bytes) (drop MOST_ENDPOINT_BYTES bytes) are
+        (sym (take-append-drop MOST_ENDPOINT_BYTES bytes))) (read_any_endpoint (take MOST_ENDPOINT_BYTES bytes)) refl is
 
     complete : (e : Epr) (rest : List ℕ) → Fits e → read_endpoint (endpoint_coding e ++ rest) ≡ read e rest
     complete e rest fits =
@@ -168,15 +179,18 @@ exact_endpoint = record { sound = sound; complete = complete }
         let k = 4096 - length (endpoint_coding e) in
         let whole : MOST_ENDPOINT_BYTES ≡ length (endpoint_coding e) + k = omega arith in
         let bytes = endpoint_coding e ++ rest in
-        let front : take MOST_ENDPOINT_BYTES bytes ≡ endpoint_coding e ++ take k rest = ap (λ (n : ℕ). take n bytes) whole ∙ take-append-add (endpoint_coding e) rest k in
-        let behind : drop MOST_ENDPOINT_BYTES bytes ≡ drop k rest = ap (λ (n : ℕ). drop n bytes) whole ∙ drop-append-add (endpoint_coding e) rest k in
+        let front : take MOST_ENDPOINT_BYTES bytes ≡ endpoint_coding e ++ take k rest =
+        ap (λ (n : ℕ). take n bytes) whole ∙ take-append-add (endpoint_coding e) rest k in
+        let behind : drop MOST_ENDPOINT_BYTES bytes ≡ drop k rest =
+        ap (λ (n : ℕ). drop n bytes) whole ∙ drop-append-add (endpoint_coding e) rest k in
         ap (λ (xs : List ℕ). of_front bytes (read_any_endpoint xs)) front
         ∙ ap (of_front bytes) (exact_any_endpoint.complete e (take k rest) (in_its_ranges e fits))
         ∙ passes fits_endpoint e bytes (take k rest ++ drop MOST_ENDPOINT_BYTES bytes) (tests_by_fits e fits)
         ∙ ap (λ (xs : List ℕ). read e xs) (ap (λ (xs : List ℕ). take k rest ++ xs) behind ∙ take-append-drop k rest)
 
 exact_upward : IsExact read_upward upward_coding (λ upward. any upward.0 × Fits upward.1)
-exact_upward = exact_pair exact_protocol exact_endpoint (λ protocol registration. (protocol, registration)) (λ (u : Protocol × Epr). u.0) (λ (u : Protocol × Epr). u.1) (λ u. refl) (λ a b. refl) (λ a b. refl)
+exact_upward = exact_pair exact_protocol exact_endpoint (λ protocol registration. (protocol, registration))
+    (λ (u : Protocol × Epr). u.0) (λ (u : Protocol × Epr). u.1) (λ u. refl) (λ a b. refl) (λ a b. refl)
 
 upward_to : (o : Option (Protocol × Epr)) → IfThere (λ upward. any upward.0 × Fits upward.1) o → IsUpward o
 upward_to None is = tt
@@ -205,7 +219,8 @@ base_is_short : (base : List ℕ) → IsBase base → IsString base
 base_is_short base is = let short = is.dialable.short in omega arith
 
 exact_base : IsExact read_base string_coding IsBase
-exact_base = widened (exact_tested exact_string is_base) (λ base is. base_by_tests base is.1) (λ base is. (base_is_short base is, tests_by_base base is))
+exact_base = widened (exact_tested exact_string is_base) (λ base is. base_by_tests base is.1)
+    (λ base is. (base_is_short base is, tests_by_base base is))
 
 -- ---- the fields of each kind
 
@@ -216,7 +231,8 @@ record Last {B : Type 0} (d : B → List ℕ) (S : B → Type 0) (make : B → R
   spelled : bytes ≡ d value ++ rest
   made : make value ≡ r
 
-last : {B : Type 0} {g : List ℕ → Reading B} {d : B → List ℕ} {S : B → Type 0} (exact : IsExact g d S) (make : B → Record) (bytes rest : List ℕ) (r : Record)
+last : {B : Type 0} {g : List ℕ → Reading B} {d : B → List ℕ} {S : B → Type 0} (exact : IsExact g d S) (make : B → Record)
+    (bytes rest : List ℕ) (r : Record)
     → IsBytes bytes → onward (g bytes) (λ b after. read (make b) after) ≡ read r rest → Last d S make bytes rest r
 last {d = d} exact make bytes rest r are e =
     let p = went exact (λ b after. read (make b) after) bytes r rest are e in
@@ -235,7 +251,11 @@ sound_node : SoundAt 1 read_node
 sound_node bytes rest r are e =
     let p0 = went exact_node_number _ bytes r rest are e in
     let l = last exact_base (λ x. Node p0.value x) p0.rest rest r p0.are_bytes p0.on in
-    subst (IsTold 1 bytes rest) l.made ((p0.in_range, l.in_range), ap (λ (xs : List ℕ). 1 ∷ xs) (p0.spelled ∙ ap (λ (xs : List ℕ). to_le_bytes w32 p0.value ++ xs) l.spelled))
+    subst (IsTold 1 bytes rest) l.made (
+      (p0.in_range, l.in_range),
+      ap (λ (xs : List ℕ). 1 ∷ xs)
+          (p0.spelled ∙ ap (λ (xs : List ℕ). to_le_bytes w32 p0.value ++ xs) l.spelled),
+    )
 
 sound_scope : SoundAt 2 read_scope
 sound_scope bytes rest r are e =
@@ -251,50 +271,82 @@ sound_end bytes rest r are e =
     let p1 = went exact_counter _ p0.rest r rest p0.are_bytes p0.on in
     let p2 = went exact_protocol _ p1.rest r rest p1.are_bytes p1.on in
     let l = last exact_endpoint (λ x. End p0.value p1.value p2.value x) p2.rest rest r p2.are_bytes p2.on in
-    subst (IsTold 3 bytes rest) l.made ((p0.in_range, (p1.in_range, l.in_range)), ap (λ (xs : List ℕ). 3 ∷ xs) (p0.spelled ∙ ap (λ (xs : List ℕ). counter_coding p0.value ++ xs) (p1.spelled ∙ ap (λ (xs : List ℕ). counter_coding p1.value ++ xs) (p2.spelled ∙ ap (λ (xs : List ℕ). protocol_code p2.value ∷ xs) l.spelled))))
+    subst (IsTold 3 bytes rest) l.made (
+      (p0.in_range, (p1.in_range, l.in_range)),
+      ap (λ (xs : List ℕ). 3 ∷ xs)
+          (p0.spelled
+          ∙ ap (λ (xs : List ℕ). counter_coding p0.value ++ xs)
+          (p1.spelled
+          ∙ ap (λ (xs : List ℕ). counter_coding p1.value ++ xs)
+          (p2.spelled ∙ ap (λ (xs : List ℕ). protocol_code p2.value ∷ xs) l.spelled))),
+    )
 
 sound_part : SoundAt 4 read_part
 sound_part bytes rest r are e =
     let p0 = went exact_counter _ bytes r rest are e in
     let p1 = went exact_protocol _ p0.rest r rest p0.are_bytes p0.on in
     let l = last exact_endpoint (λ x. Part p0.value p1.value x) p1.rest rest r p1.are_bytes p1.on in
-    subst (IsTold 4 bytes rest) l.made ((p0.in_range, l.in_range), ap (λ (xs : List ℕ). 4 ∷ xs) (p0.spelled ∙ ap (λ (xs : List ℕ). counter_coding p0.value ++ xs) (p1.spelled ∙ ap (λ (xs : List ℕ). protocol_code p1.value ∷ xs) l.spelled)))
+    subst (IsTold 4 bytes rest) l.made (
+      (p0.in_range, l.in_range),
+      ap (λ (xs : List ℕ). 4 ∷ xs)
+          (p0.spelled
+          ∙ ap (λ (xs : List ℕ). counter_coding p0.value ++ xs)
+          (p1.spelled ∙ ap (λ (xs : List ℕ). protocol_code p1.value ∷ xs) l.spelled)),
+    )
 
 sound_enrolled : SoundAt 5 read_enrolled
 sound_enrolled bytes rest r are e =
     let p0 = went exact_counter _ bytes r rest are e in
     let l = last exact_endpoint (λ x. Enrolled p0.value x) p0.rest rest r p0.are_bytes p0.on in
-    subst (IsTold 5 bytes rest) l.made ((p0.in_range, l.in_range), ap (λ (xs : List ℕ). 5 ∷ xs) (p0.spelled ∙ ap (λ (xs : List ℕ). counter_coding p0.value ++ xs) l.spelled))
+    subst (IsTold 5 bytes rest) l.made (
+      (p0.in_range, l.in_range),
+      ap (λ (xs : List ℕ). 5 ∷ xs)
+          (p0.spelled ∙ ap (λ (xs : List ℕ). counter_coding p0.value ++ xs) l.spelled),
+    )
 
 sound_refused : SoundAt 6 read_refused
 sound_refused bytes rest r are e =
     let p0 = went exact_counter _ bytes r rest are e in
     let l = last (exact_from_1 2 (omega arith)) (λ x. Refused p0.value x) p0.rest rest r p0.are_bytes p0.on in
-    subst (IsTold 6 bytes rest) l.made ((p0.in_range, l.in_range), ap (λ (xs : List ℕ). 6 ∷ xs) (p0.spelled ∙ ap (λ (xs : List ℕ). counter_coding p0.value ++ xs) l.spelled))
+    subst (IsTold 6 bytes rest) l.made (
+      (p0.in_range, l.in_range),
+      ap (λ (xs : List ℕ). 6 ∷ xs)
+          (p0.spelled ∙ ap (λ (xs : List ℕ). counter_coding p0.value ++ xs) l.spelled),
+    )
 
 sound_received : SoundAt 7 read_received
 sound_received bytes rest r are e =
     let p0 = went exact_counter _ bytes r rest are e in
     let l = last exact_notice (λ x. Received p0.value x) p0.rest rest r p0.are_bytes p0.on in
-    subst (IsTold 7 bytes rest) l.made ((p0.in_range, l.in_range), ap (λ (xs : List ℕ). 7 ∷ xs) (p0.spelled ∙ ap (λ (xs : List ℕ). counter_coding p0.value ++ xs) l.spelled))
+    subst (IsTold 7 bytes rest) l.made (
+      (p0.in_range, l.in_range),
+      ap (λ (xs : List ℕ). 7 ∷ xs)
+          (p0.spelled ∙ ap (λ (xs : List ℕ). counter_coding p0.value ++ xs) l.spelled),
+    )
 
 sound_acted : SoundAt 8 read_acted
 sound_acted bytes rest r are e =
     let p0 = went exact_counter _ bytes r rest are e in
     let l = last exact_act (λ x. Acted p0.value x) p0.rest rest r p0.are_bytes p0.on in
-    subst (IsTold 8 bytes rest) l.made (p0.in_range, ap (λ (xs : List ℕ). 8 ∷ xs) (p0.spelled ∙ ap (λ (xs : List ℕ). counter_coding p0.value ++ xs) l.spelled))
+    subst (IsTold 8 bytes rest) l.made
+    (p0.in_range, ap (λ (xs : List ℕ). 8 ∷ xs) (p0.spelled ∙ ap (λ (xs : List ℕ). counter_coding p0.value ++ xs) l.spelled))
 
 sound_decided : SoundAt 9 read_decided
 sound_decided bytes rest r are e =
     let p0 = went exact_counter _ bytes r rest are e in
     let l = last exact_verdict (λ x. Decided p0.value x) p0.rest rest r p0.are_bytes p0.on in
-    subst (IsTold 9 bytes rest) l.made (p0.in_range, ap (λ (xs : List ℕ). 9 ∷ xs) (p0.spelled ∙ ap (λ (xs : List ℕ). counter_coding p0.value ++ xs) l.spelled))
+    subst (IsTold 9 bytes rest) l.made
+    (p0.in_range, ap (λ (xs : List ℕ). 9 ∷ xs) (p0.spelled ∙ ap (λ (xs : List ℕ). counter_coding p0.value ++ xs) l.spelled))
 
 sound_chosen : SoundAt 10 read_chosen
 sound_chosen bytes rest r are e =
     let p0 = went exact_counter _ bytes r rest are e in
     let l = last (exact_from_1 3 (omega arith)) (λ x. Chosen p0.value x) p0.rest rest r p0.are_bytes p0.on in
-    subst (IsTold 10 bytes rest) l.made ((p0.in_range, l.in_range), ap (λ (xs : List ℕ). 10 ∷ xs) (p0.spelled ∙ ap (λ (xs : List ℕ). counter_coding p0.value ++ xs) l.spelled))
+    subst (IsTold 10 bytes rest) l.made (
+      (p0.in_range, l.in_range),
+      ap (λ (xs : List ℕ). 10 ∷ xs)
+          (p0.spelled ∙ ap (λ (xs : List ℕ). counter_coding p0.value ++ xs) l.spelled),
+    )
 
 sound_ticked : SoundAt 11 read_ticked
 sound_ticked bytes rest r are e =
@@ -308,8 +360,10 @@ sound_asked bytes rest r are e =
 
 -- ---- records
 
-finished : (n : ℕ) (fields : List ℕ) (f : List ℕ → Reading Record) (r : Record) → f (fields ++ []) ≡ read r [] → told n (onward (f fields) whole) ≡ Ok r
-finished n fields f r is = ap (λ (xs : List ℕ). told n (onward (f xs) whole)) (sym (append-nil fields)) ∙ ap (λ (x : Reading Record). told n (onward x whole)) is
+finished : (n : ℕ) (fields : List ℕ) (f : List ℕ → Reading Record) (r : Record) → f (fields ++ []) ≡ read r []
+    → told n (onward (f fields) whole) ≡ Ok r
+finished n fields f r is =
+    ap (λ (xs : List ℕ). told n (onward (f xs) whole)) (sym (append-nil fields)) ∙ ap (λ (x : Reading Record). told n (onward x whole)) is
 
 -- a record in its range is read from its coding
 pub reads_back : (r : Record) → InRange r → reading (coding r) ≡ Ok r
@@ -323,8 +377,10 @@ reads_back (Received counter n) is = finished (length (coding (Received counter 
 reads_back (Acted counter a) is = finished (length (coding (Acted counter a))) (counter_coding counter ++ act_code a ∷ []) read_acted (Acted counter a) (goes_on exact_counter (λ x0 r0. onward (read_act r0) (λ x1 rest. read (Acted x0 x1) rest)) counter ((act_code a ∷ []) ++ []) is (goes_on exact_act (λ x1 rest. read (Acted counter x1) rest) a [] tt refl))
 reads_back (Decided counter verdict) is = finished (length (coding (Decided counter verdict))) (counter_coding counter ++ verdict_code verdict ∷ []) read_decided (Decided counter verdict) (goes_on exact_counter (λ x0 r0. onward (read_verdict r0) (λ x1 rest. read (Decided x0 x1) rest)) counter ((verdict_code verdict ∷ []) ++ []) is (goes_on exact_verdict (λ x1 rest. read (Decided counter x1) rest) verdict [] tt refl))
 reads_back (Chosen counter choice) is = finished (length (coding (Chosen counter choice))) (counter_coding counter ++ choice ∷ []) read_chosen (Chosen counter choice) (goes_on exact_counter (λ x0 r0. onward (read_from_1 3 r0) (λ x1 rest. read (Chosen x0 x1) rest)) counter ((choice ∷ []) ++ []) is.0 (goes_on (exact_from_1 3 (omega arith)) (λ x1 rest. read (Chosen counter x1) rest) choice [] is.1 refl))
-reads_back (Ticked counter) is = finished (length (coding (Ticked counter))) (counter_coding counter) read_ticked (Ticked counter) (goes_on exact_counter (λ x0 rest. read (Ticked x0) rest) counter [] is refl)
-reads_back (Asked counter) is = finished (length (coding (Asked counter))) (counter_coding counter) read_asked (Asked counter) (goes_on exact_counter (λ x0 rest. read (Asked x0) rest) counter [] is refl)
+reads_back (Ticked counter) is = finished (length (coding (Ticked counter))) (counter_coding counter) read_ticked (Ticked counter)
+    (goes_on exact_counter (λ x0 rest. read (Ticked x0) rest) counter [] is refl)
+reads_back (Asked counter) is = finished (length (coding (Asked counter))) (counter_coding counter) read_asked (Asked counter)
+    (goes_on exact_counter (λ x0 rest. read (Asked x0) rest) counter [] is refl)
 
 told_is : (n : ℕ) (x : Reading Record) (r : Record) → told n x ≡ Ok r → (rest : List ℕ) × (x ≡ read r rest)
 told_is n (read s rest) r e = let same : s ≡ r = cc in (rest, ap (λ (y : Record). read y rest) same)
@@ -345,7 +401,8 @@ module _ (kind : ℕ) (bytes : List ℕ) (r : Record) (are : IsBytes bytes) wher
   abbrev Told : Reading Record → Type 0
   Told x = x ≡ read r [] → IsTold kind bytes [] r
 
-  of_kind : (k : ℕ) (f : List ℕ → Reading Record) (other : Reading Record) → SoundAt k f → (nat_eq kind k ≡ false → Told other) → Told (cond (nat_eq kind k) (f bytes) other)
+  of_kind : (k : ℕ) (f : List ℕ → Reading Record) (other : Reading Record) → SoundAt k f → (nat_eq kind k ≡ false → Told other)
+      → Told (cond (nat_eq kind k) (f bytes) other)
   of_kind k f other sound next = cond_both (nat_eq kind k) (f bytes) other Told
       (λ t e. subst (λ (n : ℕ). IsTold n bytes [] r) (sym (eqb-true kind k t)) (sound bytes [] r are e)) next
 
@@ -379,7 +436,8 @@ module _ (kind : ℕ) (bytes : List ℕ) (r : Record) (are : IsBytes bytes) wher
 pub is_coding : (bytes : List ℕ) (r : Record) → IsBytes bytes → reading bytes ≡ Ok r → InRange r × (bytes ≡ coding r)
 is_coding [] r are e = absurd (cc)
 is_coding (kind ∷ bytes) r are e =
-    cond_both (is_kind kind) (told (length (kind ∷ bytes)) (onward (read_record kind bytes) whole)) (Err BadKind) (λ x. x ≡ Ok r → InRange r × (kind ∷ bytes ≡ coding r))
+    cond_both (is_kind kind) (told (length (kind ∷ bytes)) (onward (read_record kind bytes) whole)) (Err BadKind)
+    (λ x. x ≡ Ok r → InRange r × (kind ∷ bytes ≡ coding r))
     (λ known h.
     let t = told_is (length (kind ∷ bytes)) (onward (read_record kind bytes) whole) r h in
     let low = leb-true 1 kind (first_so (nat_le 1 kind) (nat_le kind 12) known) in
@@ -404,14 +462,19 @@ only_memory bytes r (fault.Short place) in_range is e = let ok = ap reading is �
 -- ---- for the code
 
 -- an endpoint, read within the most bytes that it may have
-pub within_front : (bytes front rest skipped : List ℕ) (e : Epr) → front ≡ take MOST_ENDPOINT_BYTES bytes → IsBytes front → read_any_endpoint front ≡ read e rest
-    → (length rest ≤ length front) × ((length front ≤ length bytes) × (skipped ≡ drop (length front - length rest) bytes → read_endpoint bytes ≡ tested fits_endpoint bytes e skipped))
+pub within_front : (bytes front rest skipped : List ℕ) (e : Epr) → front ≡ take MOST_ENDPOINT_BYTES bytes → IsBytes front
+    → read_any_endpoint front ≡ read e rest
+    → (length rest ≤ length front)
+    × ((length front ≤ length bytes)
+    × (skipped ≡ drop (length front - length rest) bytes → read_endpoint bytes ≡ tested fits_endpoint bytes e skipped))
 within_front bytes front rest skipped e is are on =
     let here = exact_any_endpoint.sound front rest e are on in
     let split = ap length here.1 ∙ length-append (endpoint_coding e) rest in
     let all : bytes ≡ endpoint_coding e ++ (rest ++ drop MOST_ENDPOINT_BYTES bytes) =
-    sym (take-append-drop MOST_ENDPOINT_BYTES bytes) ∙ ap (λ (xs : List ℕ). xs ++ drop MOST_ENDPOINT_BYTES bytes) (sym is ∙ here.1) ∙ append_assoc (endpoint_coding e) rest (drop MOST_ENDPOINT_BYTES bytes) in
-    let long = ap length all ∙ length-append (endpoint_coding e) (rest ++ drop MOST_ENDPOINT_BYTES bytes) ∙ ap (λ (n : ℕ). length (endpoint_coding e) + n) (length-append rest (drop MOST_ENDPOINT_BYTES bytes)) in
+    sym (take-append-drop MOST_ENDPOINT_BYTES bytes) ∙ ap (λ (xs : List ℕ). xs ++ drop MOST_ENDPOINT_BYTES bytes) (sym is ∙ here.1)
+    ∙ append_assoc (endpoint_coding e) rest (drop MOST_ENDPOINT_BYTES bytes) in
+    let long = ap length all ∙ length-append (endpoint_coding e) (rest ++ drop MOST_ENDPOINT_BYTES bytes)
+    ∙ ap (λ (n : ℕ). length (endpoint_coding e) + n) (length-append rest (drop MOST_ENDPOINT_BYTES bytes)) in
     let taken : length front - length rest ≡ length (endpoint_coding e) = omega arith in
     let behind : drop (length (endpoint_coding e)) bytes ≡ rest ++ drop MOST_ENDPOINT_BYTES bytes =
     ap (drop (length (endpoint_coding e))) all ∙ drop-append_seam (endpoint_coding e) (rest ++ drop MOST_ENDPOINT_BYTES bytes) in (

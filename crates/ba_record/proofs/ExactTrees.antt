@@ -18,13 +18,15 @@ abbrev pub IsName : Name → Type 0
 IsName name = IsString name.space × IsString name.local
 
 pub exact_name : IsExact read_name name_coding IsName
-exact_name = exact_pair exact_string exact_string (λ space local. record { space = space; local = local }) (λ (n : Name). n.space) (λ (n : Name). n.local) (λ n. refl) (λ a b. refl) (λ a b. refl)
+exact_name = exact_pair exact_string exact_string (λ space local. record { space = space; local = local }) (λ (n : Name). n.space)
+    (λ (n : Name). n.local) (λ n. refl) (λ a b. refl) (λ a b. refl)
 
 abbrev pub IsAttribute : Attribute → Type 0
 IsAttribute a = IsName a.name × IsString a.value
 
 pub exact_attribute : IsExact read_attribute attribute_coding IsAttribute
-exact_attribute = exact_pair exact_name exact_string (λ name value. record { name = name; value = value }) (λ (a : Attribute). a.name) (λ (a : Attribute). a.value) (λ a. refl) (λ a b. refl) (λ a b. refl)
+exact_attribute = exact_pair exact_name exact_string (λ name value. record { name = name; value = value }) (λ (a : Attribute). a.name)
+    (λ (a : Attribute). a.value) (λ a. refl) (λ a b. refl) (λ a b. refl)
 
 -- the content is a text, or a tree of that range
 abbrev pub IsContent : (Tree → Type 0) → Content → Type 0
@@ -39,7 +41,8 @@ module _ {f : List ℕ → Reading Tree} {R : Tree → Type 0} (exact : IsExact 
       let same : Text p.value ≡ c = cc in
       let after : p.rest ≡ out = cc in (
         inl (p.value, p.in_range, sym same),
-        (λ i. 0 ∷ (p.spelled ∙ (λ j. string_coding p.value ++ after j)) i) ∙ ap (λ (xs : List ℕ). xs ++ out) (sym (text_coding p.value) ∙ ap content_coding same),
+        (λ i. 0 ∷ (p.spelled ∙ (λ j. string_coding p.value ++ after j)) i)
+            ∙ ap (λ (xs : List ℕ). xs ++ out) (sym (text_coding p.value) ∙ ap content_coding same),
       )
   content_sound (suc zero) from rest out c are e =
       let p = went exact (λ child after. read (Child child) after) rest c out are e in
@@ -47,7 +50,8 @@ module _ {f : List ℕ → Reading Tree} {R : Tree → Type 0} (exact : IsExact 
       let same : Child p.value ≡ c = cc in
       let after : p.rest ≡ out = cc in (
         inr (p.value, p.in_range, sym same),
-        (λ i. 1 ∷ (p.spelled ∙ (λ j. tree_coding p.value ++ after j)) i) ∙ ap (λ (xs : List ℕ). xs ++ out) (sym (child_coding p.value) ∙ ap content_coding same),
+        (λ i. 1 ∷ (p.spelled ∙ (λ j. tree_coding p.value ++ after j)) i)
+            ∙ ap (λ (xs : List ℕ). xs ++ out) (sym (child_coding p.value) ∙ ap content_coding same),
       )
   content_sound (suc (suc n)) from rest out c are e = absurd (cc)
 
@@ -99,7 +103,8 @@ module _ {f : List ℕ → Reading Tree} {R : Tree → Type 0} (exact : IsExact 
   exact_contents = exact_counted (exact_content exact) (2 ^ 16) exact_16
 
   abbrev behind_attributes : Name → List Attribute → List ℕ → Reading Tree
-  behind_attributes name attributes more = onward (read_contents f more) (λ content after. read (record { name = name; attributes = attributes; content = content }) after)
+  behind_attributes name attributes more =
+      onward (read_contents f more) (λ content after. read (record { name = name; attributes = attributes; content = content }) after)
 
   abbrev behind_name : Name → List ℕ → Reading Tree
   behind_name name rest = onward (read_attributes rest) (behind_attributes name)
@@ -107,28 +112,45 @@ module _ {f : List ℕ → Reading Tree} {R : Tree → Type 0} (exact : IsExact 
   spelled_so : (n a c rest : List ℕ) → n ++ (a ++ (c ++ rest)) ≡ (n ++ (a ++ c)) ++ rest
   spelled_so n a c rest = ap (λ (xs : List ℕ). n ++ xs) (sym (append_assoc a c rest)) ∙ sym (append_assoc n (a ++ c) rest)
 
-  element_sound : (bytes rest : List ℕ) (t : Tree) → IsBytes bytes → read_element f bytes ≡ read t rest → IsElement R t × (bytes ≡ tree_coding t ++ rest)
+  element_sound : (bytes rest : List ℕ) (t : Tree) → IsBytes bytes → read_element f bytes ≡ read t rest → IsElement R t
+      × (bytes ≡ tree_coding t ++ rest)
   element_sound bytes rest t are e =
       let p = went exact_name behind_name bytes t rest are e in
       let q = went exact_attributes (behind_attributes p.value) p.rest t rest p.are_bytes p.on in
-      let r = went exact_contents (λ content after. read (record { name = p.value; attributes = q.value; content = content }) after) q.rest t rest q.are_bytes q.on in
+      let r = went exact_contents
+      (λ content after. read (record { name = p.value; attributes = q.value; content = content }) after)
+      q.rest t rest q.are_bytes q.on in
       let made : Tree = record { name = p.value; attributes = q.value; content = r.value } in
       let on : read made r.rest ≡ read t rest = r.on in
       let same : made ≡ t = cc in
       let after : r.rest ≡ rest = cc in
       subst (λ (x : Tree). IsElement R x × (bytes ≡ tree_coding x ++ rest)) same (
-        record { named = p.in_range; few_attributes = q.in_range.0; attributes = q.in_range.1; few_content = r.in_range.0; content = r.in_range.1 },
-        p.spelled ∙ ap (λ (xs : List ℕ). name_coding p.value ++ xs) (q.spelled ∙ ap (λ (xs : List ℕ). attributes_coding q.value ++ xs) (r.spelled ∙ ap (λ (xs : List ℕ). contents_coding r.value ++ xs) after))
-            ∙ spelled_so (name_coding p.value) (attributes_coding q.value) (contents_coding r.value) rest ∙ ap (λ (xs : List ℕ). xs ++ rest) (sym (tree_is made)),
+        record {
+          named = p.in_range;
+          few_attributes = q.in_range.0;
+          attributes = q.in_range.1;
+          few_content = r.in_range.0;
+          content = r.in_range.1;
+        },
+        p.spelled
+            ∙ ap (λ (xs : List ℕ). name_coding p.value ++ xs)
+            (q.spelled
+            ∙ ap (λ (xs : List ℕ). attributes_coding q.value ++ xs)
+            (r.spelled ∙ ap (λ (xs : List ℕ). contents_coding r.value ++ xs) after))
+            ∙ spelled_so (name_coding p.value) (attributes_coding q.value) (contents_coding r.value) rest
+            ∙ ap (λ (xs : List ℕ). xs ++ rest) (sym (tree_is made)),
       )
 
   element_complete : (t : Tree) (rest : List ℕ) → IsElement R t → read_element f (tree_coding t ++ rest) ≡ read t rest
   element_complete t rest is =
       ap (λ (xs : List ℕ). read_element f (xs ++ rest)) (tree_is t)
-      ∙ ap (λ (xs : List ℕ). read_element f xs) (sym (spelled_so (name_coding t.name) (attributes_coding t.attributes) (contents_coding t.content) rest))
+      ∙ ap (λ (xs : List ℕ). read_element f xs)
+      (sym (spelled_so (name_coding t.name) (attributes_coding t.attributes) (contents_coding t.content) rest))
       ∙ goes exact_name behind_name t.name (attributes_coding t.attributes ++ (contents_coding t.content ++ rest)) is.named
       ∙ goes exact_attributes (behind_attributes t.name) t.attributes (contents_coding t.content ++ rest) (is.few_attributes, is.attributes)
-      ∙ goes exact_contents (λ content after. read (record { name = t.name; attributes = t.attributes; content = content }) after) t.content rest (is.few_content, is.content)
+      ∙ goes exact_contents
+      (λ content after. read (record { name = t.name; attributes = t.attributes; content = content }) after) t.content rest
+      (is.few_content, is.content)
 
   pub exact_element : IsExact (read_element f) tree_coding (IsElement R)
   exact_element = record { sound = element_sound; complete = element_complete }
@@ -148,4 +170,5 @@ IsEndpoint e = IsString e.address × ((length e.parameters < 256) × Each (IsTre
 
 pub exact_any_endpoint : IsExact read_any_endpoint endpoint_coding IsEndpoint
 exact_any_endpoint = exact_pair exact_string (exact_counted (exact_tree MOST_ENDPOINT_BYTES) 256 exact_count)
-    (λ address parameters. record { address = address; parameters = parameters }) (λ (e : Epr). e.address) (λ (e : Epr). e.parameters) (λ e. refl) (λ a b. refl) (λ a b. refl)
+    (λ address parameters. record { address = address; parameters = parameters }) (λ (e : Epr). e.address) (λ (e : Epr). e.parameters)
+    (λ e. refl) (λ a b. refl) (λ a b. refl)

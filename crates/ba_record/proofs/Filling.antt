@@ -19,7 +19,8 @@ pub filled_on : (room : RoomValue) (a b : List ℕ) → filled (filled room a) b
 unfolding filled
 filled_on room a b =
     let n = room.size - length room.bytes in
-    let left : room.size - length (room.bytes ++ take n a) ≡ n - length a = omega (arith, length-append room.bytes (take n a), length-take n a) in
+    let left : room.size - length (room.bytes ++ take n a) ≡ n - length a =
+    omega (arith, length-append room.bytes (take n a), length-take n a) in
     ap (λ (bytes : List ℕ). record { bytes = bytes; size = room.size })
     (ap (λ (m : ℕ). (room.bytes ++ take n a) ++ take m b) left
     ∙ append_assoc room.bytes (take n a) (take (n - length a) b)
@@ -32,13 +33,16 @@ filled_none room =
     (ap (λ (xs : List ℕ). room.bytes ++ xs) (take_all (room.size - length room.bytes) [] (omega arith)) ∙ append-nil room.bytes)
 
 -- where there is room, all bytes are kept
-pub filled_whole : (room : RoomValue) (bytes : List ℕ) → length room.bytes + length bytes ≤ room.size → filled room bytes ≡ record { bytes = room.bytes ++ bytes; size = room.size }
+pub filled_whole : (room : RoomValue) (bytes : List ℕ) → length room.bytes + length bytes ≤ room.size
+    → filled room bytes ≡ record { bytes = room.bytes ++ bytes; size = room.size }
 unfolding filled
 filled_whole room bytes fits =
-    ap (λ (kept : List ℕ). record { bytes = room.bytes ++ kept; size = room.size }) (take_all (room.size - length room.bytes) bytes (omega (arith, fits)))
+    ap (λ (kept : List ℕ). record { bytes = room.bytes ++ kept; size = room.size })
+    (take_all (room.size - length room.bytes) bytes (omega (arith, fits)))
 
 -- a new room that is as large as what is put in
-pub from_new : (new reserved full : RoomValue) (bytes : List ℕ) (size : ℕ) → new ≡ record { bytes = []; size = 0 } → reserved ≡ record { bytes = new.bytes; size = max new.size size }
+pub from_new : (new reserved full : RoomValue) (bytes : List ℕ) (size : ℕ) → new ≡ record { bytes = []; size = 0 }
+    → reserved ≡ record { bytes = new.bytes; size = max new.size size }
     → size ≡ length bytes → full ≡ filled reserved bytes → full.bytes ≡ bytes
 from_new new reserved full bytes size is_new is_reserved is_size is =
     let empty : reserved.bytes ≡ [] = ap (λ (room : RoomValue). room.bytes) is_reserved ∙ ap (λ (room : RoomValue). room.bytes) is_new in

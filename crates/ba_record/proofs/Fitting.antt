@@ -48,7 +48,8 @@ content_in levels tree c deep small few =
     ]
 
 contents_in : (levels : ℕ) → ((t : Tree) → tree_length t ≤ levels → tree_length t < 2 ^ 16 → FewAttributes (elements t) → IsTree levels t)
-    → (contents : List Content) → sum_by part_length contents ≤ levels → sum_by part_length contents < 2 ^ 16 → FewAttributes (joined (map (λ c. (within c).elements) contents))
+    → (contents : List Content) → sum_by part_length contents ≤ levels → sum_by part_length contents < 2 ^ 16
+    → FewAttributes (joined (map (λ c. (within c).elements) contents))
     → Each (IsContent (IsTree levels)) contents
 contents_in levels tree [] deep small few = tt
 contents_in levels tree (c ∷ more) deep small few =
@@ -87,7 +88,8 @@ tree_in (suc levels) t deep small few =
       content = contents_in levels (tree_in levels) t.content (omega arith) (omega arith) (omega arith);
     }
 
-trees_in : (levels : ℕ) (ts : List Tree) → sum_by tree_length ts ≤ levels → levels < 2 ^ 16 → list_all (λ t. nat_le (most_attributes t) 16) ts ≡ true → Each (IsTree levels) ts
+trees_in : (levels : ℕ) (ts : List Tree) → sum_by tree_length ts ≤ levels → levels < 2 ^ 16
+    → list_all (λ t. nat_le (most_attributes t) 16) ts ≡ true → Each (IsTree levels) ts
 trees_in levels [] deep small few = tt
 trees_in levels (t ∷ more) deep small few =
     let split = sum_by-cons tree_length t more in

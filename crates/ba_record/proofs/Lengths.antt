@@ -31,7 +31,8 @@ attributes_are_long (a ∷ more) =
     let parts = length-append (attribute_coding a) (joined (map attribute_coding more)) in
     omega arith
 
-content_is_long : (n : ℕ) → ((t : Tree) → tree_length t ≤ n → length (tree_coding t) ≡ tree_length t) → (c : Content) → part_length c ≤ n → length (content_coding c) ≡ part_length c
+content_is_long : (n : ℕ) → ((t : Tree) → tree_length t ≤ n → length (tree_coding t) ≡ tree_length t) → (c : Content)
+    → part_length c ≤ n → length (content_coding c) ≡ part_length c
 content_is_long n tree c within =
     elim (content_is c) [
       | inl is ↦
@@ -46,7 +47,8 @@ content_is_long n tree c within =
     ]
 
 contents_are_long : (n : ℕ) → ((t : Tree) → tree_length t ≤ n → length (tree_coding t) ≡ tree_length t)
-    → (contents : List Content) → sum_by part_length contents ≤ n → length (joined (map content_coding contents)) ≡ sum_by part_length contents
+    → (contents : List Content) → sum_by part_length contents ≤ n
+    → length (joined (map content_coding contents)) ≡ sum_by part_length contents
 contents_are_long n tree [] within = refl
 contents_are_long n tree (c ∷ more) within =
     let split = sum_by-cons part_length c more in

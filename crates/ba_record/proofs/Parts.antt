@@ -26,10 +26,12 @@ module _ {A : Type 0} (coding : A → List ℕ) (parts : List A) where
 
   pub all_put : (n : ℕ) (out whole : RoomValue) → n ≡ length parts → filled out (joined (map coding (drop n parts))) ≡ whole → out ≡ whole
   all_put n out whole all is =
-      sym (filled_none out) ∙ ap (λ (xs : List A). filled out (joined (map coding xs))) (sym (ap (λ (m : ℕ). drop m parts) all ∙ drop-length parts)) ∙ is
+      sym (filled_none out)
+      ∙ ap (λ (xs : List A). filled out (joined (map coding xs))) (sym (ap (λ (m : ℕ). drop m parts) all ∙ drop-length parts)) ∙ is
 
   -- the same, as a loop over equal items meets it
-  pub one_put : (items : List A) (i : ℕ) (item : A) (out new whole : RoomValue) → items ≡ parts → i < length items → item ≡ get_or items i item
+  pub one_put : (items : List A) (i : ℕ) (item : A) (out new whole : RoomValue) → items ≡ parts → i < length items
+      → item ≡ get_or items i item
       → new ≡ filled out (coding item) → filled out (joined (map coding (drop i parts))) ≡ whole
       → filled new (joined (map coding (drop (i + 1) parts))) ≡ whole
   one_put items i item out new whole same more there put is =
@@ -41,15 +43,19 @@ module _ {A : Type 0} (coding : A → List ℕ) (parts : List A) where
 pub put_behind : (out a new : RoomValue) (x y : List ℕ) → a ≡ filled out x → new ≡ filled a y → new ≡ filled out (x ++ y)
 put_behind out a new x y first second = second ∙ ap (λ (room : RoomValue). filled room y) first ∙ filled_on out x y
 
-pub text_put : (out a new : RoomValue) (text : List ℕ) (c : Content) → c ≡ Text text → a ≡ filled out (0 ∷ []) → new ≡ filled a (string_coding text)
+pub text_put : (out a new : RoomValue) (text : List ℕ) (c : Content) → c ≡ Text text → a ≡ filled out (0 ∷ [])
+    → new ≡ filled a (string_coding text)
     → new ≡ filled out (content_coding c)
 text_put out a new text c is first second =
-    put_behind out a new (0 ∷ []) (string_coding text) first second ∙ ap (λ (xs : List ℕ). filled out xs) (sym (ap content_coding is ∙ text_coding text))
+    put_behind out a new (0 ∷ []) (string_coding text) first second
+    ∙ ap (λ (xs : List ℕ). filled out xs) (sym (ap content_coding is ∙ text_coding text))
 
-pub child_put : (out a new : RoomValue) (tree : Tree) (c : Content) → c ≡ Child tree → a ≡ filled out (1 ∷ []) → new ≡ filled a (tree_coding tree)
+pub child_put : (out a new : RoomValue) (tree : Tree) (c : Content) → c ≡ Child tree → a ≡ filled out (1 ∷ [])
+    → new ≡ filled a (tree_coding tree)
     → new ≡ filled out (content_coding c)
 child_put out a new tree c is first second =
-    put_behind out a new (1 ∷ []) (tree_coding tree) first second ∙ ap (λ (xs : List ℕ). filled out xs) (sym (ap content_coding is ∙ child_coding tree))
+    put_behind out a new (1 ∷ []) (tree_coding tree) first second
+    ∙ ap (λ (xs : List ℕ). filled out xs) (sym (ap content_coding is ∙ child_coding tree))
 
 -- ---- lengths
 

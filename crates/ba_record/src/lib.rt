@@ -18,6 +18,3 @@ pub use records::{Record, RecordFault};
 pub use rooms::Room;
 pub use sizes::size_of;
 pub use writer::{put, put_in};
-
-#[cfg(test)]
-mod tests;

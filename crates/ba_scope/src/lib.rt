@@ -8,8 +8,6 @@ mod fields;
 mod laws;
 mod parts;
 mod scopes;
-#[cfg(test)]
-mod tests;
 
 pub use answers::{
     ALREADY_DECIDED, Drained, EnrolFault, MOST_ENDS, NO_SUCH_END, NOT_A_CHILD, NOT_A_ROOT,

@@ -12,6 +12,3 @@ pub use readers::ReadSource;
 pub use system_clocks::SystemClock;
 pub use tcp_links::TcpLink;
 pub use writers::WriteSink;
-
-#[cfg(test)]
-mod tests;

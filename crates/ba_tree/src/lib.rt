@@ -17,6 +17,3 @@ pub use namespaces::{
 };
 pub use spaces::Spaces;
 pub use trees::{Attribute, Content, Name, Tree, text_size};
-
-#[cfg(test)]
-mod tests;

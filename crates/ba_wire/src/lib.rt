@@ -10,8 +10,6 @@ mod forms;
 mod laws;
 mod meaning;
 mod routes;
-#[cfg(test)]
-mod tests;
 mod values;
 
 pub use contexts::{context_of, tree_of_context};

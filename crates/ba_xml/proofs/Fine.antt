@@ -1,4 +1,5 @@
 -- What the laws of the one text need of each piece of a tree's content.
+use Rattle.ba_tree.specs.Trees.{name_cmp}
 use Rattle.std.proofs.Common.{◌≡◌, ℕ, ◌+◌, ◌≤◌, Bool, true, false, ◌&&◌, Some, List, [], ◌∷◌, length, encode_utf8_all, codes}
 use Rattle.std.specs.List.{list_all}
 use Rattle.std.specs.Str.{bytes_eq}
@@ -8,7 +9,7 @@ use Rattle.ba_tree.specs.declared.trees.Name.{Name}
 use Rattle.ba_tree.specs.declared.trees.Attribute.{Attribute}
 use Rattle.ba_tree.specs.declared.trees.Content.{Content, Text, Child', Row_of-Content, end_of-Content, more_of-Content}
 use Rattle.ba_xml_grammar.specs.GrammarWords.{Begun, IsPlainName}
-use Rattle.ba_xml_names.specs.Namespaces.{nearest, name_order}
+use Rattle.ba_xml_names.specs.Namespaces.{nearest}
 use Rattle.ba_xml_names.specs.declared.levels.Declaration as reader
 use Rattle.ba_xml_writer.specs.Namespaces.{Declaration}
 use Rattle.ba_xml_writer.specs.Resolving.{prefix_of}
@@ -21,7 +22,7 @@ IsLegal bytes = (characters : List ℕ) × (list_all is_legal characters ≡ tru
 -- the attribute's name is below each of these
 abbrev pub IsBefore : Attribute → List Attribute → Type 0
 IsBefore a [] = Unit {0}
-IsBefore a (b ∷ more) = (name_order a.name b.name ≡ order.Less) × IsBefore a more
+IsBefore a (b ∷ more) = (name_cmp a.name b.name ≡ order.Less) × IsBefore a more
 
 -- the names rise
 abbrev pub Rise : List Attribute → Type 0

@@ -1,4 +1,5 @@
 -- What the start tags of the one text mean.
+use Rattle.ba_tree.specs.Trees.{name_cmp}
 use Rattle.std.proofs.Common.{◌≡◌, ℕ, Bool, true, false, cond, ◌&&◌, ◌||◌, ◌==◌, Option, Some, None, List, [], ◌∷◌, ◌++◌, map, nat_eq, codes, refl, sym, ap, ◌∙◌, append_assoc, append-nil}
 use Rattle.std.proofs.lemmas.Bool.{eqb-true}
 use Rattle.std.proofs.lemmas.Slice.Eq.{bytes_eq-Decides}
@@ -12,7 +13,7 @@ use Rattle.ba_tree.specs.declared.trees.Name.{Name}
 use Rattle.ba_tree.specs.declared.trees.Attribute.{Attribute}
 use Rattle.ba_xml_names.proofs.Openings.{lawful}
 use Rattle.ba_xml_grammar.specs.Grammar.{Pair, value_of, attribute, tag}
-use Rattle.ba_xml_names.specs.Namespaces.{is_declaration, declaration_of, declarations, is_lawful, nearest, named, element_name, attribute_name, attribute_of, valued, name_order, placed, placed_by, put_one, put_in_order, opened, opening_in, opening}
+use Rattle.ba_xml_names.specs.Namespaces.{is_declaration, declaration_of, declarations, is_lawful, nearest, named, element_name, attribute_name, attribute_of, valued, placed, placed_by, put_one, put_in_order, opened, opening_in, opening}
 use Rattle.ba_xml_names.specs.declared.levels.Declaration as reader
 use Rattle.ba_xml_words.specs.declared.names.RawAttribute.{RawAttribute}
 use Rattle.ba_xml_writer.specs.Namespaces.{Declaration}
@@ -72,13 +73,13 @@ not_put read rows (d ∷ own) others = not_put read rows own others
 -- each of these is below the name
 abbrev AreBelow : List Attribute → Attribute → Type 0
 AreBelow [] a = Unit {0}
-AreBelow (r ∷ rows) a = (name_order r.name a.name ≡ order.Less) × AreBelow rows a
+AreBelow (r ∷ rows) a = (name_cmp r.name a.name ≡ order.Less) × AreBelow rows a
 
 abbrev AreUnder : List Attribute → List Attribute → Type 0
 AreUnder rows [] = Unit {0}
 AreUnder rows (a ∷ more) = AreBelow rows a × AreUnder rows more
 
-below_last : (rows : List Attribute) (r a : Attribute) → AreBelow rows a → name_order r.name a.name ≡ order.Less → AreBelow (rows ++ r ∷ []) a
+below_last : (rows : List Attribute) (r a : Attribute) → AreBelow rows a → name_cmp r.name a.name ≡ order.Less → AreBelow (rows ++ r ∷ []) a
 below_last [] r a b e = (e, tt)
 below_last (x ∷ rows) r a b e = (b.0, below_last rows r a b.1 e)
 

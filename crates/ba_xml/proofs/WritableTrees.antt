@@ -17,7 +17,6 @@ use Rattle.ba_tree.specs.declared.trees.Tree.{Tree}
 use Rattle.ba_tree.specs.declared.trees.Content.{Child}
 use Rattle.ba_xml_words.specs.Classes.{is_first_letter}
 use Rattle.ba_xml_grammar.specs.GrammarWords.{Each, IsPlainName, is_name_letter}
-use Rattle.ba_xml_names.specs.Namespaces.{name_order}
 use Rattle.ba_xml_writer.specs.Namespaces.{scope, further}
 use Rattle.ba_xml_writer.specs.Writable.{IsWritable}
 use Rattle.ba_xml.proofs.Declared.{read_scope, explained}
@@ -54,7 +53,7 @@ less_of order.Less h = refl
 less_of order.Equal h = absurd (true≢false (sym h))
 less_of order.Greater h = absurd (true≢false (sym h))
 
-before_more : (a b : Attribute) (more : List Attribute) → name_order a.name b.name ≡ order.Less → IsBefore b more → IsBefore a more
+before_more : (a b : Attribute) (more : List Attribute) → name_cmp a.name b.name ≡ order.Less → IsBefore b more → IsBefore a more
 before_more a b [] e f = tt
 before_more a b (c ∷ more) e f = (names_total.trans a.name b.name c.name e f.0, before_more a b more e f.1)
 
@@ -62,7 +61,7 @@ rise : (a : Attribute) (more : List Attribute) → rises (a ∷ more) ≡ true �
 rise a [] h = (tt, tt)
 rise a (b ∷ more) h =
     let hs : (is_lt (name_cmp a.name b.name) ≡ true) × (rises (b ∷ more) ≡ true) = both (is_lt (name_cmp a.name b.name)) (rises (b ∷ more)) h in
-    let e : name_order a.name b.name ≡ order.Less = less_of (name_cmp a.name b.name) hs.0 in
+    let e : name_cmp a.name b.name ≡ order.Less = less_of (name_cmp a.name b.name) hs.0 in
     let later : Rise (b ∷ more) = rise b more hs.1 in
     ((e, before_more a b more e later.0), later)
 

@@ -42,9 +42,13 @@ document_standings d = standings 1 first_scope d.root (written_misc d.behind [])
 
 -- ---- places, which count bytes from 0
 
--- the text's bytes from this place on, line ends being one, are these
+-- the byte at this place adds nothing to the text: it is the second of a line end (section 2.11)
+abbrev pub EndsLine : List ℕ → ℕ → Type 0
+EndsLine bytes place = lines false (take (place + 1) bytes) ≡ lines false (take place bytes)
+
+-- a byte of the text is at this place, and from it on the text, its line ends being one byte each, is this
 abbrev pub IsAt : List ℕ → ℕ → Document → List ℕ → Type 0
-IsAt bytes place d rest = lines false (take place bytes) ++ rest ≡ written_document d
+IsAt bytes place d rest = (lines false (take place bytes) ++ rest ≡ written_document d) × (EndsLine bytes place → ⊥)
 
 -- the bytes up to and with the one at this place are the front of this document, whatever its prefixes mean and its size
 abbrev pub IsFrontOf : List ℕ → ℕ → Document → Type 0

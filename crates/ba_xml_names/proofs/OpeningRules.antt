@@ -10,14 +10,14 @@ use Rattle.std.specs.Ordering.{is_lt, ordering_reverse}
 use Rattle.std.specs.Str.{bytes_eq}
 use Rattle.std.specs.declared.cmp.Ordering.{Ordering}
 use Rattle.std.specs.declared.cmp.Ordering.TheVariants as order
-use Rattle.ba_tree.specs.Trees.{rises}
+use Rattle.ba_tree.specs.Trees.{name_cmp, rises}
 use Rattle.ba_tree.specs.declared.trees.Attribute.{Attribute}
 use Rattle.ba_tree.specs.declared.trees.Name.{Name}
 use Rattle.ba_xml_names.proofs.Openings as openings
 use Rattle.ba_tree.specs.Namespaces.{xml_space}
 use Rattle.ba_xml_names.specs.Namespaces.{is_default, is_prefixed, is_declaration, declaration_of}
 use Rattle.ba_xml_names.specs.Namespaces.{declarations, is_lawful, nearest, named, element_name, attribute_name, valued, attribute_of}
-use Rattle.ba_xml_names.specs.Namespaces.{name_order, placed_by, placed, put_one, put_in_order, opened, opening_in, opening}
+use Rattle.ba_xml_names.specs.Namespaces.{placed_by, placed, put_one, put_in_order, opened, opening_in, opening}
 use Rattle.ba_xml_names.specs.declared.levels.Declaration.{Declaration}
 use Rattle.ba_xml_names.specs.declared.levels.Opening.{Opening}
 use Rattle.ba_xml_words.specs.declared.names.RawAttribute.{RawAttribute}
@@ -293,13 +293,13 @@ attribute_so ds raw a h =
 
 -- ---- rising order
 
-names_total : IsTotalOrder name_order
+names_total : IsTotalOrder name_cmp
 names_total = then_total (on_total (λ (n : Name). n.space) nat_list_cmp_total) (on_total (λ (n : Name). n.local) nat_list_cmp_total)
 
 -- the attribute's name is below each of these
 abbrev IsBefore : Attribute → List Attribute → Type 0
 IsBefore a [] = Unit {0}
-IsBefore a (b ∷ more) = (name_order a.name b.name ≡ order.Less) × IsBefore a more
+IsBefore a (b ∷ more) = (name_cmp a.name b.name ≡ order.Less) × IsBefore a more
 
 -- each name is below all that follow
 abbrev Rise : List Attribute → Type 0
@@ -311,43 +311,43 @@ less_of order.Less h = refl
 less_of order.Equal h = absurd (true≢false (sym h))
 less_of order.Greater h = absurd (true≢false (sym h))
 
-before_all : (a b : Attribute) (more : List Attribute) → name_order a.name b.name ≡ order.Less → IsBefore b more → IsBefore a more
+before_all : (a b : Attribute) (more : List Attribute) → name_cmp a.name b.name ≡ order.Less → IsBefore b more → IsBefore a more
 before_all a b [] e f = tt
 before_all a b (c ∷ more) e f = (names_total.trans a.name b.name c.name e f.0, before_all a b more e f.1)
 
-rise_by : (a b : Attribute) (more : List Attribute) → (is_lt (name_order a.name b.name) ≡ true) × (rises (b ∷ more) ≡ true)
+rise_by : (a b : Attribute) (more : List Attribute) → (is_lt (name_cmp a.name b.name) ≡ true) × (rises (b ∷ more) ≡ true)
     → Rise (b ∷ more) → Rise (a ∷ b ∷ more)
 rise_by a b more h later =
-    let e : name_order a.name b.name ≡ order.Less = less_of (name_order a.name b.name) h.0 in
+    let e : name_cmp a.name b.name ≡ order.Less = less_of (name_cmp a.name b.name) h.0 in
     ((e, before_all a b more e later.0), later)
 
 all_rise : (atts : List Attribute) → rises atts ≡ true → Rise atts
 all_rise [] h = tt
 all_rise (a ∷ []) h = (tt, tt)
 all_rise (a ∷ b ∷ more) h =
-    let hs : (is_lt (name_order a.name b.name) ≡ true) × (rises (b ∷ more) ≡ true)
-    = both (is_lt (name_order a.name b.name)) (rises (b ∷ more)) h in
+    let hs : (is_lt (name_cmp a.name b.name) ≡ true) × (rises (b ∷ more) ≡ true)
+    = both (is_lt (name_cmp a.name b.name)) (rises (b ∷ more)) h in
     rise_by a b more hs (all_rise (b ∷ more) hs.1)
 
 rises_by : (a : Attribute) (more : List Attribute) → IsBefore a more → Rise more → (rises more ≡ true) → rises (a ∷ more) ≡ true
 rises_by a [] b r h = refl
 rises_by a (c ∷ more) b r h =
-    joined (is_lt (name_order a.name c.name)) (rises (c ∷ more)) (ap is_lt b.0) h
+    joined (is_lt (name_cmp a.name c.name)) (rises (c ∷ more)) (ap is_lt b.0) h
 
 rises_so : (atts : List Attribute) → Rise atts → rises atts ≡ true
 rises_so [] r = refl
 rises_so (a ∷ more) r = rises_by a more r.0 r.1 (rises_so more r.1)
 
-before_put : (f a : Attribute) (first rest : List Attribute) → name_order f.name a.name ≡ order.Less → IsBefore f (first ++ rest)
+before_put : (f a : Attribute) (first rest : List Attribute) → name_cmp f.name a.name ≡ order.Less → IsBefore f (first ++ rest)
     → IsBefore f (first ++ a ∷ rest)
 before_put f a [] rest l b = (l, b)
 before_put f a (x ∷ first) rest l b = (b.0, before_put f a first rest l b.1)
 
 before_without : (f a : Attribute) (first rest : List Attribute) → IsBefore f (first ++ a ∷ rest)
-    → (name_order f.name a.name ≡ order.Less) × IsBefore f (first ++ rest)
+    → (name_cmp f.name a.name ≡ order.Less) × IsBefore f (first ++ rest)
 before_without f a [] rest b = b
 before_without f a (x ∷ first) rest b =
-    let later : (name_order f.name a.name ≡ order.Less) × IsBefore f (first ++ rest) = before_without f a first rest b.1 in
+    let later : (name_cmp f.name a.name ≡ order.Less) × IsBefore f (first ++ rest) = before_without f a first rest b.1 in
     (later.0, (b.0, later.1))
 
 rise_without : (a : Attribute) (first rest : List Attribute) → Rise (first ++ a ∷ rest) → Rise (first ++ rest)
@@ -359,15 +359,15 @@ rise_before [] rows all p r = subst Rise p r
 rise_before (a ∷ meant) rows all p r =
     subst Rise (sym p.2) (rise_without a p.0 p.1 (rise_before meant (p.0 ++ a ∷ p.1) all p.3 r))
 
-greater_back : (a b : Name) → name_order a b ≡ order.Greater → name_order b a ≡ order.Less
-greater_back a b h = by (name_order b a) (sym (names_total.antisymm a b) ∙ h)
+greater_back : (a b : Name) → name_cmp a b ≡ order.Greater → name_cmp b a ≡ order.Less
+greater_back a b h = by (name_cmp b a) (sym (names_total.antisymm a b) ∙ h)
   where
     by : (o : Ordering) → ordering_reverse o ≡ order.Greater → o ≡ order.Less
     by order.Less e = refl
     by order.Equal e = absurd (cc)
     by order.Greater e = absurd (cc)
 
-less_back : (a b : Name) → name_order a b ≡ order.Less → name_order b a ≡ order.Greater
+less_back : (a b : Name) → name_cmp a b ≡ order.Less → name_cmp b a ≡ order.Greater
 less_back a b h = names_total.antisymm b a ∙ ap ordering_reverse h
 
 -- ---- attributes that are put in order
@@ -381,7 +381,7 @@ IsPut a rows all = IsPlaced a rows all × Rise all
 no_place : (all : List Attribute) → (let o : Option (List Attribute) = None in o) ≡ Some all → ⊥
 no_place all e = cc
 
-put_behind : (a row : Attribute) (rows all : List Attribute) (found : Option (List Attribute)) → name_order a.name row.name ≡ order.Greater
+put_behind : (a row : Attribute) (rows all : List Attribute) (found : Option (List Attribute)) → name_cmp a.name row.name ≡ order.Greater
     → Rise (row ∷ rows) → ((more : List Attribute) → found ≡ Some more → IsPut a rows more)
     → option_map (λ more. row ∷ more) found ≡ Some all → IsPut a (row ∷ rows) all
 put_behind a row rows all None o r ih h = absurd (no_place all h)
@@ -394,7 +394,7 @@ put_behind a row rows all (Some more) o r ih h =
       subst Rise is (subst (IsBefore row) (sym p.0.3) before, p.1),
     )
 
-put_by : (o : Ordering) (a row : Attribute) (rows all : List Attribute) → name_order a.name row.name ≡ o → Rise (row ∷ rows)
+put_by : (o : Ordering) (a row : Attribute) (rows all : List Attribute) → name_cmp a.name row.name ≡ o → Rise (row ∷ rows)
     → ((more : List Attribute) → placed a rows ≡ Some more → IsPut a rows more)
     → placed_by o a row rows (placed a rows) ≡ Some all → IsPut a (row ∷ rows) all
 put_by order.Less a row rows all e r ih h =
@@ -406,7 +406,7 @@ put_by order.Greater a row rows all e r ih h = put_behind a row rows all (placed
 put_is : (a : Attribute) (rows all : List Attribute) → Rise rows → placed a rows ≡ Some all → IsPut a rows all
 put_is a [] all r h =
     let is : a ∷ [] ≡ all = same_some (a ∷ []) all h in (([], [], refl, sym is), subst Rise is (tt, tt))
-put_is a (row ∷ rows) all r h = put_by (name_order a.name row.name) a row rows all refl r (λ more. put_is a rows more r.1) h
+put_is a (row ∷ rows) all r h = put_by (name_cmp a.name row.name) a row rows all refl r (λ more. put_is a rows more r.1) h
 
 put_so : (a : Attribute) (first rest : List Attribute) → Rise (first ++ a ∷ rest) → placed a (first ++ rest) ≡ Some (first ++ a ∷ rest)
 put_so a [] [] r = refl

@@ -1,11 +1,10 @@
 -- Believe: Namespaces in XML 1.0: what prefixes mean, and what a start tag means by them.
 use Rattle.std.specs.Prelude.{ℕ, ◌≤◌, List, [], ◌∷◌, ◌++◌, Bool, true, false, cond, not, ◌&&◌, Option, Some, None, bytes_eq, option_map, option_and_then, codes}
 use Rattle.std.specs.List.{list_all, insert}
-use Rattle.std.specs.Cmp.Lexicographic.{slice_cmp}
-use Rattle.std.specs.Ordering.{nat_cmp, ordering_then}
 use Rattle.std.specs.declared.cmp.Ordering.{Ordering}
 use Rattle.std.specs.declared.cmp.Ordering.TheVariants as order
 use Rattle.ba_tree.specs.Namespaces.{xml_space}
+use Rattle.ba_tree.specs.Trees.{name_cmp}
 use Rattle.ba_tree.specs.declared.trees.Name.{Name}
 use Rattle.ba_tree.specs.declared.trees.Attribute.{Attribute}
 use Rattle.ba_xml_names.specs.declared.levels.Declaration.{Declaration}
@@ -76,10 +75,6 @@ valued value name = record { name = name; value = value }
 abbrev pub attribute_of : List Declaration → RawAttribute → Option Attribute
 attribute_of ds a = option_map (valued a.value) (attribute_name ds a.name)
 
--- rising order of (namespace, local part)
-abbrev pub name_order : Name → Name → Ordering
-name_order one other = ordering_then (slice_cmp nat_cmp one.space other.space) (slice_cmp nat_cmp one.local other.local)
-
 -- an attribute put where it belongs among others; none where one of these has its name
 abbrev pub placed_by : Ordering → Attribute → Attribute → List Attribute → Option (List Attribute) → Option (List Attribute)
 placed_by order.Less a row rows rest = Some (a ∷ row ∷ rows)
@@ -88,7 +83,7 @@ placed_by order.Greater a row rows rest = option_map (λ more. row ∷ more) res
 
 abbrev pub placed : Attribute → List Attribute → Option (List Attribute)
 placed a [] = Some (a ∷ [])
-placed a (row ∷ rows) = placed_by (name_order a.name row.name) a row rows (placed a rows)
+placed a (row ∷ rows) = placed_by (name_cmp a.name row.name) a row rows (placed a rows)
 
 abbrev pub put_one : List Declaration → List Attribute → RawAttribute → Option (List Attribute)
 put_one ds rows a = option_and_then (λ e. placed e rows) (attribute_of ds a)

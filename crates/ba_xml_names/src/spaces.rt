@@ -3,7 +3,7 @@ ghost use Rattle.std.specs.Prelude.{◌≡◌, ◌≤◌, ◌++◌, ◌∷◌, �
 ghost use Rattle.std.specs.List.{list_all};
 ghost use Rattle.std.specs.Vec.Iter.{into_iter_items};
 ghost use Rattle.ba_tree.specs.Namespaces.{xml_space};
-ghost use Rattle.ba_xml_names.specs.Namespaces.{opening, opening_in, scope, first_scope, is_default, is_prefixed, is_declaration, declaration_of, declarations, is_lawful, is_lawful_prefix, nearest, element_name, attribute_name, attribute_of, name_order, placed, placed_at, put_one, put_in_order, IsWithin};
+ghost use Rattle.ba_xml_names.specs.Namespaces.{opening, opening_in, scope, first_scope, is_default, is_prefixed, is_declaration, declaration_of, declarations, is_lawful, is_lawful_prefix, nearest, element_name, attribute_name, attribute_of, placed, placed_at, put_one, put_in_order, IsWithin};
 ghost use Rattle.ba_xml_names.specs.inside.Rows.{AreRising, gap_of};
 
 use crate::boxed::Held;
@@ -14,7 +14,6 @@ use ba_core::{List, Memory, Octets};
 use ba_tree::{Attribute, Name, Namespace, XML_SPACE};
 use ba_xml_words::{RawAttribute, RawName};
 use std::alloc::Global;
-use std::cmp::Ordering;
 use std::vec::IntoIter;
 
 /// Where an attribute belongs among others.
@@ -380,7 +379,7 @@ fn spot_of(rows: &[Attribute], row: &Attribute) -> Spot
     ensures spot { placed row.now rows.now ≡ placed_at result row.now rows.now }
     ensures within { IsWithin result (length rows.now) }
 {
-    gap(rows.binary_search_by(|other| order(&other.name, &row.name)))
+    gap(rows.binary_search_by(|other| other.name.cmp(&row.name)))
 }
 
 // The place that a search ended at, if it is free.
@@ -390,14 +389,5 @@ fn gap(found: Result<usize, usize>) -> Spot
     match found {
         Ok(_) => Spot::Taken,
         Err(index) => Spot::At(index),
-    }
-}
-
-fn order(one: &Name, other: &Name) -> Ordering
-    ensures { result ≡ name_order one.now other.now }
-{
-    match one.space.as_slice().cmp(&other.space.as_slice()) {
-        Ordering::Equal => one.local.as_slice().cmp(&other.local.as_slice()),
-        decided => decided,
     }
 }

@@ -44,5 +44,8 @@ pub mod SoundSections
 pub mod SoundSteps
 pub mod SoundTags
 pub mod SoundText
+pub mod WholeBeginnings
+pub mod WholeEmpties
+pub mod WholeEndings
 pub mod WholeEscapes
 pub mod WholePairs

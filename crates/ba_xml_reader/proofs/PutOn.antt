@@ -15,6 +15,7 @@ use Rattle.ba_xml_names.specs.inside.Tags.{with_attribute}
 use Rattle.ba_xml_reader.specs.inside.Tags.{value_by, value_more, end_name_by}
 use Rattle.ba_xml_words.specs.declared.classes.Class.{Class}
 use Rattle.ba_xml_words.specs.declared.classes.Class.TheVariants as class
+use Rattle.ba_xml_words.specs.declared.faults.Reason.{Reason}
 use Rattle.ba_xml_words.specs.declared.faults.Reason.TheVariants as reason
 use Rattle.ba_xml_names.specs.declared.levels.Level.{Level}
 use Rattle.ba_xml_reader.specs.declared.machine.Scan.{Scan}
@@ -130,6 +131,14 @@ turn_on outer out here in' m n b one other e =
     ∙ ap (λ t. turned_by (state_after (state.At outer here m) (cond t 10 b)) Between b) other
     ∙ ap (λ s. turned_by s Between b) e
     ∙ ap (λ t. turn.On (record { state = state.At out in' n; octet = Between; returned = t })) other
+
+pub turn_refused : (outer : List Level) (here : Level) (m : Mode) (b : ℕ) (r : Reason) → is_single (lead b) ≡ true → (b == 13) ≡ false
+    → state_after (state.At outer here m) b ≡ state.Refused r → turned (calm_scan (state.At outer here m)) b ≡ turn.Refused r
+unfolding octet_after
+turn_refused outer here m b r one other e =
+    ap (λ d. turned_from (calm_scan (state.At outer here m)) b d) (single (lead b) one)
+    ∙ ap (λ t. turned_by (state_after (state.At outer here m) (cond t 10 b)) Between b) other
+    ∙ ap (λ s. turned_by s Between b) e
 
 text_step : (parent : Level) (outer : List Level) (here : Level) (b : ℕ) (k : Class) → class_of b ≡ k → calm k b ≡ true
     → state_after (state.At (parent ∷ outer) here (mode.Inside Zero)) b ≡ state.At (parent ∷ outer) (put here b) (mode.Inside Zero)
@@ -281,7 +290,7 @@ end_name_step outer here x [] b e =
 end_name_step outer here x (y ∷ ys) b e =
     by_kind outer here (mode.EndName (x ∷ y ∷ ys)) b (class_of b) refl ∙ ap (λ t. end_name_by outer here (cond t (meeting.On (y ∷ ys)) meeting.Wrong)) e
 
-front_runs : (outer : List Level) (here : Level) (rest bs : List ℕ) (taken : ℕ) → list_all is_plain bs ≡ true → is_front bs rest ≡ true
+pub front_runs : (outer : List Level) (here : Level) (rest bs : List ℕ) (taken : ℕ) → list_all is_plain bs ≡ true → is_front bs rest ≡ true
     → taken + length bs ≤ 262144
     → run (Going (calm_scan (state.At outer here (before_name rest))) taken) bs
     ≡ Going (calm_scan (state.At outer here (before_name (drop (length bs) rest)))) (taken + length bs)

@@ -57,7 +57,7 @@ pair_bytes bs pair is =
 
 -- ---- one byte
 
-run_one : (scan next : Scan) (taken b : ℕ) → turned scan b ≡ turn.On next → taken < 262144 → run (Going scan taken) (b ∷ []) ≡ Going next (taken + 1)
+pub run_one : (scan next : Scan) (taken b : ℕ) → turned scan b ≡ turn.On next → taken < 262144 → run (Going scan taken) (b ∷ []) ≡ Going next (taken + 1)
 run_one scan next taken b e h = run_more (Going scan taken) b [] ∙ ap (λ r. run r []) (once scan next taken b e h) ∙ run_none (Going next (taken + 1))
 
 equals_kind : class_of 61 ≡ class.EqualsSign

@@ -1,4 +1,7 @@
+pub mod Beginnings
 pub mod Content
+pub mod Empties
+pub mod Endings
 pub mod Escapes
 pub mod Pairs
 pub mod Readings

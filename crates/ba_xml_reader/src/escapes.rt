@@ -87,8 +87,8 @@ impl Scan {
         Some(escape)
     }
 
-    // Whether the next byte stands among characters of an element.
-    fn is_in_text(&self) -> bool
+    /// Whether the next byte stands among characters of an element.
+    pub fn is_in_text(&self) -> bool
         ensures { result ≡ is_in_text self.now }
     {
         if self.returned {

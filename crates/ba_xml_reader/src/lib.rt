@@ -1,7 +1,10 @@
 //! Texts of XML 1.0 in the part that this product takes: read into trees, exactly.
 #![tactic(auto)]
 
+mod beginnings;
 mod content;
+mod empties;
+mod endings;
 mod escapes;
 mod laws;
 mod machine;

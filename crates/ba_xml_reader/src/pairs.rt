@@ -132,13 +132,20 @@ fn put_pair_in(alloc: Global, mode: &mut Mode, name: &[u8], value: &[u8]) -> Res
     match mode {
         Mode::InTag(tag, spaced) => {
             *spaced = false;
-            tag.add(attribute(alloc, name, value)?)
+            put_attribute(tag, attribute(alloc, name, value)?)
         }
         _ => Ok(()),
     }
 }
 
-fn attribute(alloc: Global, name: &[u8], value: &[u8]) -> Result<Held<RawAttribute>, Memory>
+// The tag's attributes are at hand, so this one doesn't go by the heap.
+fn put_attribute(tag: &mut Held<Tag>, attribute: RawAttribute) -> Result<(), Memory>
+    ensures { OnOk result (tag.new ≡ with_attribute tag.old attribute) }
+{
+    tag.inside.attributes.push(attribute).map_err(|_| Memory)
+}
+
+fn attribute(alloc: Global, name: &[u8], value: &[u8]) -> Result<RawAttribute, Memory>
     ensures { IfOk result (λ attribute. attribute ≡ plain_attribute name.now value.now) }
 {
     let name = RawName {
@@ -146,10 +153,11 @@ fn attribute(alloc: Global, name: &[u8], value: &[u8]) -> Result<Held<RawAttribu
         local: octets(alloc, name)?,
     };
     let value = octets(alloc, value)?;
-    Held::of(alloc, RawAttribute { name, value })
+    Ok(RawAttribute { name, value })
 }
 
-fn octets(alloc: Global, bytes: &[u8]) -> Result<Octets, Memory>
+/// These bytes.
+pub fn octets(alloc: Global, bytes: &[u8]) -> Result<Octets, Memory>
     ensures { IfOk result (λ octets. octets ≡ bytes.now) }
 {
     match Vec::from_slice(alloc, bytes) {

@@ -44,8 +44,8 @@ pub fn span_length(puts: Puts, bytes: &[u8], most: u64) -> usize
     length
 }
 
-// So many of the first bytes of both that are the same and plain, up to a number.
-fn front_length(rest: &[u8], bytes: &[u8], most: u64) -> usize
+/// So many of the first bytes of both that are the same and plain, up to a number.
+pub fn front_length(rest: &[u8], bytes: &[u8], most: u64) -> usize
     ensures plain { list_all is_plain (take result bytes.now) ≡ true }
     ensures front { is_front (take result bytes.now) rest.now ≡ true }
     ensures within { result ≤ length bytes.now }
@@ -106,7 +106,7 @@ impl Scan {
         })
     }
 
-    // Takes an attribute or a reference with which the bytes begin, or else the first of them.
+    // Takes a piece with which the bytes begin, or else the first of them.
     fn read_piece(
         &mut self,
         alloc: Global,
@@ -120,10 +120,12 @@ impl Scan {
         ensures some { IfOk result (λ taking. 0 < taking.count) }
         ensures within { IfOk result (λ taking. taking.count ≤ length bytes.now) }
     {
+        if bytes[0] == b'/' {
+            return self.read_slash(alloc, taken, bytes, most);
+        }
         let count = self.take_piece(alloc, taken, bytes, most)?;
         if count == 0 {
-            let refusal = self.step(alloc, taken, bytes[0])?;
-            return Ok(Taken { count: 1, refusal });
+            return self.read_byte(alloc, taken, bytes);
         }
         Ok(Taken {
             count,
@@ -131,7 +133,40 @@ impl Scan {
         })
     }
 
-    // Takes an attribute or a reference with which the bytes begin, if they do, and answers how many bytes it has.
+    // Takes the end of an empty element's tag with which the bytes begin, or else the first of them.
+    fn read_slash(
+        &mut self,
+        alloc: Global,
+        taken: u64,
+        bytes: &[u8],
+        most: u64,
+    ) -> Result<Taken, Memory>
+        requires some { 0 < length bytes.now }
+        requires most { most ≤ MOST_BYTES - taken }
+        ensures read { IfOk result (λ taking. run (Going self.old taken) (take taking.count bytes.now) ≡ reading_at self.new (taken + taking.count) taking.refusal) }
+        ensures some { IfOk result (λ taking. 0 < taking.count) }
+        ensures within { IfOk result (λ taking. taking.count ≤ length bytes.now) }
+    {
+        let Some(count) = self.empty_end(bytes, most) else {
+            return self.read_byte(alloc, taken, bytes);
+        };
+        let refusal = self.put_empty(alloc, taken)?;
+        Ok(Taken { count, refusal })
+    }
+
+    // Takes the first byte alone.
+    fn read_byte(&mut self, alloc: Global, taken: u64, bytes: &[u8]) -> Result<Taken, Memory>
+        requires { 0 < length bytes.now }
+        ensures read { IfOk result (λ taking. run (Going self.old taken) (take taking.count bytes.now) ≡ reading_at self.new (taken + taking.count) taking.refusal) }
+        ensures some { IfOk result (λ taking. 0 < taking.count) }
+        ensures within { IfOk result (λ taking. taking.count ≤ length bytes.now) }
+    {
+        let refusal = self.step(alloc, taken, bytes[0])?;
+        Ok(Taken { count: 1, refusal })
+    }
+
+    // Takes a tag or the beginning of one, an attribute or a reference with which the bytes begin, if they do, and
+    // answers how many bytes it has.
     fn take_piece(
         &mut self,
         alloc: Global,
@@ -148,10 +183,69 @@ impl Scan {
         if bytes[0] == b'&' {
             return self.take_escape(taken, bytes, most);
         }
+        if bytes[0] == b'<' {
+            return self.take_tag(alloc, taken, bytes, most);
+        }
         if is_letter(bytes[0]) {
             return self.take_pair(alloc, taken, bytes, most);
         }
         Ok(0)
+    }
+
+    fn take_tag(
+        &mut self,
+        alloc: Global,
+        taken: u64,
+        bytes: &[u8],
+        most: u64,
+    ) -> Result<usize, Memory>
+        requires { most ≤ MOST_BYTES - taken }
+        ensures read { IfOk result (λ count. 0 < count → run (Going self.old taken) (take count bytes.now) ≡ Going self.new (taken + count)) }
+        ensures none { IfOk result (λ count. count ≡ 0 → self.new ≡ self.old) }
+        ensures within { IfOk result (λ count. count ≤ length bytes.now) }
+    {
+        if bytes.len() > 1 && bytes[1] == b'/' {
+            return self.take_ending(alloc, taken, bytes, most);
+        }
+        self.take_beginning(alloc, taken, bytes, most)
+    }
+
+    fn take_beginning(
+        &mut self,
+        alloc: Global,
+        taken: u64,
+        bytes: &[u8],
+        most: u64,
+    ) -> Result<usize, Memory>
+        requires { most ≤ MOST_BYTES - taken }
+        ensures read { IfOk result (λ count. 0 < count → run (Going self.old taken) (take count bytes.now) ≡ Going self.new (taken + count)) }
+        ensures none { IfOk result (λ count. count ≡ 0 → self.new ≡ self.old) }
+        ensures within { IfOk result (λ count. count ≤ length bytes.now) }
+    {
+        let Some(name) = self.beginning(bytes, most) else {
+            return Ok(0);
+        };
+        self.put_beginning(alloc, &bytes[1..][..name])?;
+        Ok(name + 2)
+    }
+
+    fn take_ending(
+        &mut self,
+        alloc: Global,
+        taken: u64,
+        bytes: &[u8],
+        most: u64,
+    ) -> Result<usize, Memory>
+        requires { most ≤ MOST_BYTES - taken }
+        ensures read { IfOk result (λ count. 0 < count → run (Going self.old taken) (take count bytes.now) ≡ Going self.new (taken + count)) }
+        ensures none { IfOk result (λ count. count ≡ 0 → self.new ≡ self.old) }
+        ensures within { IfOk result (λ count. count ≤ length bytes.now) }
+    {
+        let Some(name) = self.ending(bytes, most) else {
+            return Ok(0);
+        };
+        self.put_ending(alloc)?;
+        Ok(name + 3)
     }
 
     fn take_pair(

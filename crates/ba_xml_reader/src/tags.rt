@@ -43,8 +43,8 @@ pub fn tag_name(
     }
 }
 
-// A start tag with this name and no attributes.
-fn without_attributes(alloc: Global, name: RawName) -> Result<Held<Tag>, Memory>
+/// A start tag with this name and no attributes.
+pub fn without_attributes(alloc: Global, name: RawName) -> Result<Held<Tag>, Memory>
     ensures { IfOk result (λ tag. tag ≡ record { name = name; attributes = [] }) }
 {
     let tag = Tag {
@@ -335,7 +335,8 @@ pub fn slashed(
     }
 }
 
-fn child(
+/// One child more of the innermost element.
+pub fn child(
     alloc: Global,
     here: &mut Held<Level>,
     mode: &mut Mode,
@@ -376,8 +377,8 @@ pub fn end_space(
     }
 }
 
-// The document itself has no end tag.
-fn close(
+/// Ends the innermost element. The document itself has no end tag.
+pub fn close(
     alloc: Global,
     outer: &mut Stack<Held<Level>>,
     here: &mut Held<Level>,

@@ -1,16 +1,16 @@
 -- Inside: rows of attributes in rising order of their names, and where a search among them ends.
+use Rattle.ba_tree.specs.Trees.{name_cmp}
 use Rattle.std.specs.Prelude.{ℕ, List, [], ◌∷◌, ◌≡◌, Result, Ok, Err}
 use Rattle.std.specs.declared.cmp.Ordering.TheVariants as order
 use Rattle.ba_tree.specs.declared.trees.Attribute.{Attribute}
 use Rattle.ba_tree.specs.declared.trees.Name.{Name}
-use Rattle.ba_xml_names.specs.Namespaces.{name_order}
 use Rattle.ba_xml_names.specs.declared.spaces.Spot.{Spot}
 use Rattle.ba_xml_names.specs.declared.spaces.Spot.TheVariants.{At, Taken}
 
 -- each row's name is above this one
 abbrev pub IsBelow : Name → List Attribute → Type 0
 IsBelow name [] = Unit {0}
-IsBelow name (row ∷ rows) = (name_order name row.name ≡ order.Less) × IsBelow name rows
+IsBelow name (row ∷ rows) = (name_cmp name row.name ≡ order.Less) × IsBelow name rows
 
 abbrev pub AreRising : List Attribute → Type 0
 AreRising [] = Unit {0}

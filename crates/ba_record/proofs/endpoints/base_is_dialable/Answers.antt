@@ -13,7 +13,8 @@ returns-then-dialable c =
     let rest = stripped.1 ∙ ap (λ s. drop (length s) base) scheme in
     let spelled : base ≡ codes "http://" ++ c.in-Some.rest.now =
     sym (take-append-drop 7 base) ∙ (λ i. same_text (take 7 base) (codes "http://") (sym front) i ++ sym rest i) in
-    tells_base base c.in-Some.rest.now true c.contains.result spelled (λ e. c.dialable.ensures.0 c.if-dialable.true, λ d. refl) c.contains.ensures.value
+    tells_base base c.in-Some.rest.now true c.contains.result spelled
+    (λ e. c.dialable.ensures.0 c.if-dialable.true, λ d. refl) c.contains.ensures.value
 
 pub returns-else-dialable : goal.returns-else-dialable
 returns-else-dialable c = no_base c.args.base.now c.dialable.result c.if-dialable.false c.dialable.ensures.1

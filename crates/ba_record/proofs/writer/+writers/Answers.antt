@@ -9,11 +9,13 @@ use Rattle.ba_record.proofs.writer.+writers.Goals as goal
 
 pub put_content-returns-in-Text : goal.put_content-returns-in-Text
 put_content-returns-in-Text t c =
-    text_put c.args.out.now c.put_byte.new.out c.put_string.new.out c.in-Text.text c.args.content.now c.in-Text.is c.put_byte.ensures c.put_string.ensures
+    text_put c.args.out.now c.put_byte.new.out c.put_string.new.out c.in-Text.text c.args.content.now
+    c.in-Text.is c.put_byte.ensures c.put_string.ensures
 
 pub put_content-returns-in-Child : goal.put_content-returns-in-Child
 put_content-returns-in-Child t c =
-    child_put c.args.out.now c.put_byte-in-Child.new.out c.put_tree.new.out c.in-Child.tree c.args.content.now c.in-Child.is c.put_byte-in-Child.ensures c.put_tree.ensures
+    child_put c.args.out.now c.put_byte-in-Child.new.out c.put_tree.new.out c.in-Child.tree c.args.content.now
+    c.in-Child.is c.put_byte-in-Child.ensures c.put_tree.ensures
 
 pub put_contents-returns : goal.put_contents-returns
 put_contents-returns t c =

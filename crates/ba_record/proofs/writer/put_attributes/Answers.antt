@@ -10,7 +10,8 @@ pub loop-attribute-preserved : goal.loop-attribute-preserved
 loop-attribute-preserved c =
     let parts = c.args.attributes.now in
     let l = c.loop-attribute in
-    one_put attribute_coding parts c.as_slice-attribute-items.result.now l.attribute-index c.attribute-item.result l.out c.put_attribute.new.out
+    one_put attribute_coding parts c.as_slice-attribute-items.result.now l.attribute-index c.attribute-item.result l.out
+    c.put_attribute.new.out
     (filled c.put_count.new.out (joined (map attribute_coding parts)))
     c.as_slice-attribute-items.ensures c.loop-attribute-test.true c.attribute-item.is c.put_attribute.ensures l.invariant
 

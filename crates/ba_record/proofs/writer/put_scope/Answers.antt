@@ -14,5 +14,6 @@ returns c =
     let d = option_coding (to_le_bytes w64) c.args.deadline in
     let u = option_coding upward_coding c.args.upward.now in
     put_behind out c.put_counter.new.out new a (b ++ (d ++ u)) c.put_counter.ensures
-    (put_behind c.put_counter.new.out c.put_byte.new.out new b (d ++ u) (c.put_byte.ensures ∙ ap (λ (k : ℕ). filled c.put_counter.new.out (k ∷ [])) c.code_of_kind.ensures)
+    (put_behind c.put_counter.new.out c.put_byte.new.out new b (d ++ u)
+    (c.put_byte.ensures ∙ ap (λ (k : ℕ). filled c.put_counter.new.out (k ∷ [])) c.code_of_kind.ensures)
     (put_behind c.put_byte.new.out c.put_deadline.new.out new d u c.put_deadline.ensures c.put_upward.ensures))

@@ -13,4 +13,6 @@ abbrev pub decreases-tree : goal.decreases-tree
 decreases-tree l = 3 * l.levels
 
 abbrev pub invariant-contents-contents : goal.invariant-contents-contents
-invariant-contents-contents l = behind l.contents (read_many (read_content (read_tree l.levels)) (l.count - l.done) l.self.rest.now) ≡ read_many (read_content (read_tree l.levels)) l.count l.initial.self.rest.now
+invariant-contents-contents l = behind l.contents
+    (read_many (read_content (read_tree l.levels)) (l.count - l.done) l.self.rest.now) ≡ read_many
+    (read_content (read_tree l.levels)) l.count l.initial.self.rest.now

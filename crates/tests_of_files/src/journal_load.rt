@@ -1,7 +1,7 @@
 //! Loads of files in memory, where every call goes well or the machine stops at one.
 
-use crate::{Journal, JournalFault};
 use ba_core::List;
+use ba_journal::{Journal, JournalFault};
 use ba_memory::MemDisk;
 use ba_ports::{Faulty, Image};
 use std::alloc::Global;

@@ -1,8 +1,8 @@
 //! Endpoints and contexts are made, copied, compared and measured where there is memory, and the edges of what
 //! fits and of what can be dialed are said one by one.
 
-use crate::{Context, Epr, dialable};
 use ba_core::{Kind, List, Memory, Octets};
+use ba_message::{Context, Epr, dialable};
 use ba_tree::{Attribute, Content, Name, Namespace, Tree, WSA_SPACE};
 use std::alloc::Global;
 use std::test::Fail;

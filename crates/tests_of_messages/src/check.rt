@@ -1,6 +1,6 @@
 //! The worked Register, and a message that names what isn't known. The canonical text was worked out by hand from its rules.
 
-use crate::check;
+use ba_check::check;
 use ba_core::{List, Octets};
 use ba_memory::{Out, Text};
 use std::test::Fail;

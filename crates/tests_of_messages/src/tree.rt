@@ -1,7 +1,9 @@
 //! Trees are made and measured where there is memory, and the edges of texts and names are told one by one.
 
-use crate::{Attribute, Content, Name, Namespace, Spaces, Tree, bare_ends, legal_text, plain_name};
 use ba_core::{List, Memory, Octets};
+use ba_tree::{
+    Attribute, Content, Name, Namespace, Spaces, Tree, bare_ends, legal_text, plain_name,
+};
 use std::alloc::Global;
 use std::test::Fail;
 

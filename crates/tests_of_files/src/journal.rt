@@ -1,7 +1,7 @@
 //! Files whose bytes were worked out by hand, and what a scan finds in them.
 
-use crate::{Scan, ScanFault, scan};
 use ba_core::Octets;
+use ba_journal::{Scan, ScanFault, scan};
 use ba_record::Record;
 use std::alloc::Global;
 use std::process::Abort;

@@ -1,7 +1,7 @@
 //! Each call of a disk in memory once, and each image of a write and of a cut.
 
-use crate::MemDisk;
 use ba_core::List;
+use ba_memory::MemDisk;
 use ba_ports::{Disk, Failed, Faulty, Image};
 use std::test::Fail;
 

@@ -1,8 +1,8 @@
 //! Each kind with its bytes worked out by hand, the place of each bad field, and what each front of a record says.
 
-use crate::{Record, RecordFault, Room, get, put, put_in, records_are_read_back, size_of};
 use ba_core::{Act, Kind, List, Memory, Notice, Octets, Protocol, Verdict};
 use ba_message::Epr;
+use ba_record::{Record, RecordFault, Room, get, put, put_in, records_are_read_back, size_of};
 use ba_tree::{Attribute, Content, Name, Namespace, Tree};
 use std::alloc::Global;
 use std::test::Fail;

@@ -1,8 +1,8 @@
 //! A source, a sink and a link in memory are read and written once through their traits, with a failure in the
 //! middle.
 
-use crate::{FixedClock, Out, ScriptLink, Text};
 use ba_core::List;
+use ba_memory::{FixedClock, Out, ScriptLink, Text};
 use ba_ports::{Clock, Failed, Link, Sink, Source};
 use std::test::Fail;
 

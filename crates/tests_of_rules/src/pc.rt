@@ -1,8 +1,15 @@
 //! Cells of the tables, written by hand, all that are empty among them: a table in `specs/` with a mistake
 //! would prove the same mistake here.
 
-use crate::{CRow, PRow, c_choose, c_complete, c_receive, c_tick, p_act, p_receive, p_says};
 use ba_core::{Act, CState, How, Notice, PState, Verdict};
+use ba_pc::{CRow, PRow, c_choose, c_receive, c_tick, p_act, p_receive, p_says};
+
+fn c_stay(next: CState) -> CRow {
+    CRow::Row {
+        next,
+        prompt: false,
+    }
+}
 
 fn c_prompt(next: CState) -> CRow {
     CRow::Row { next, prompt: true }
@@ -21,76 +28,122 @@ fn p_prompt(next: PState) -> PRow {
 
 #[test]
 fn receives_at_an_end(rt: HostRuntime) {
-    assert_eq!(rt; c_receive(CState::Active, Notice::Completed), CRow::Invalid);
     assert_eq!(rt;
-        c_receive(CState::Completing, Notice::Completed),
+        c_receive(CState::Active, Notice::Completed),
+        c_prompt(CState::Completed)
+    );
+    assert_eq!(rt; c_receive(CState::Active, Notice::Closed), CRow::Invalid);
+    assert_eq!(rt;
+        c_receive(CState::Canceling, Notice::Completed),
         c_prompt(CState::Completed)
     );
     assert_eq!(rt;
-        c_receive(CState::Completing, Notice::Fail),
-        c_prompt(CState::FailingCompleting)
-    );
-    assert_eq!(rt;
-        c_receive(CState::CancelingActive, Notice::Completed),
-        CRow::Invalid
-    );
-    assert_eq!(rt;
-        c_receive(CState::CancelingCompleting, Notice::Completed),
-        c_prompt(CState::Completed)
-    );
-    assert_eq!(rt;
-        c_receive(CState::CancelingActive, Notice::Canceled),
+        c_receive(CState::Canceling, Notice::Canceled),
         c_prompt(CState::Ended(How::Canceled))
+    );
+    assert_eq!(rt;
+        c_receive(CState::Completed, Notice::Completed),
+        c_stay(CState::Completed)
+    );
+    assert_eq!(rt; c_receive(CState::Completed, Notice::Fail), CRow::Invalid);
+    assert_eq!(rt;
+        c_receive(CState::Closing, Notice::Completed),
+        c_prompt(CState::Closing)
+    );
+    assert_eq!(rt;
+        c_receive(CState::Compensating, Notice::Fail),
+        c_prompt(CState::FailingCompensating)
+    );
+    assert_eq!(rt;
+        c_receive(CState::Exiting, Notice::Exit),
+        c_stay(CState::Exiting)
+    );
+    assert_eq!(rt;
+        c_receive(CState::Ended(How::Exited), Notice::Exit),
+        c_prompt(CState::Ended(How::Exited))
+    );
+    assert_eq!(rt;
+        c_receive(CState::Ended(How::Exited), Notice::Fail),
+        c_stay(CState::Ended(How::Exited))
     );
 }
 
 #[test]
 fn receives_at_a_participant(rt: HostRuntime) {
     assert_eq!(rt;
-        p_receive(PState::Active, Notice::Complete),
-        p_prompt(PState::Completing)
-    );
-    assert_eq!(rt;
-        p_receive(PState::Canceling, Notice::Complete),
-        p_stay(PState::Canceling)
-    );
-    assert_eq!(rt;
-        p_receive(PState::Ended(How::Canceled), Notice::Complete),
-        p_prompt(PState::Ended(How::Canceled))
-    );
-    assert_eq!(rt;
-        p_receive(PState::Completing, Notice::Cancel),
+        p_receive(PState::Active, Notice::Cancel),
         p_prompt(PState::Canceling)
     );
-    assert_eq!(rt; p_receive(PState::Completing, Notice::Close), PRow::Invalid);
+    assert_eq!(rt; p_receive(PState::Active, Notice::Complete), PRow::Invalid);
+    assert_eq!(rt;
+        p_receive(PState::Completed, Notice::Close),
+        p_prompt(PState::Closing)
+    );
+    assert_eq!(rt;
+        p_receive(PState::Completed, Notice::Cancel),
+        p_prompt(PState::Completed)
+    );
+    assert_eq!(rt;
+        p_receive(PState::Closing, Notice::Cancel),
+        p_stay(PState::Closing)
+    );
+    assert_eq!(rt;
+        p_receive(PState::Closing, Notice::Compensate),
+        PRow::Invalid
+    );
+    assert_eq!(rt;
+        p_receive(PState::FailingActive, Notice::Failed),
+        p_prompt(PState::Ended(How::Failed))
+    );
+    assert_eq!(rt;
+        p_receive(PState::FailingCompensating, Notice::Cancel),
+        p_stay(PState::FailingCompensating)
+    );
+    assert_eq!(rt;
+        p_receive(PState::Ended(How::Closed), Notice::Close),
+        p_prompt(PState::Ended(How::Closed))
+    );
+    assert_eq!(rt;
+        p_receive(PState::Ended(How::Closed), Notice::Failed),
+        p_stay(PState::Ended(How::Closed))
+    );
+    assert_eq!(rt;
+        p_receive(PState::Ended(How::Refused), Notice::Cancel),
+        p_stay(PState::Ended(How::Refused))
+    );
 }
 
 #[test]
-fn chooses_completes_and_tells(rt: HostRuntime) {
+fn chooses_and_tells(rt: HostRuntime) {
     assert_eq!(rt;
-        c_choose(CState::Active, Verdict::Undo),
-        Some(CState::CancelingActive)
+        c_choose(CState::Completed, Verdict::Undo),
+        Some(CState::Compensating)
     );
+    assert_eq!(rt; c_choose(CState::Closing, Verdict::Undo), None);
     assert_eq!(rt;
-        c_choose(CState::Completing, Verdict::Undo),
-        Some(CState::CancelingCompleting)
+        c_choose(CState::Exiting, Verdict::Close),
+        Some(CState::Exiting)
     );
-    assert_eq!(rt; c_complete(CState::Active), Some(CState::Completing));
-    assert_eq!(rt; c_complete(CState::Completing), None);
+    assert_eq!(rt; c_choose(CState::Active, Verdict::Close), None);
     assert_eq!(rt;
-        c_tick(CState::Completing),
-        (CState::Completing, Some(Notice::Complete))
+        c_tick(CState::FailingActive),
+        (CState::Ended(How::Failed), Some(Notice::Failed))
     );
+    assert_eq!(rt; c_tick(CState::Completed), (CState::Completed, None));
 }
 
 #[test]
 fn acts_and_says(rt: HostRuntime) {
-    assert_eq!(rt; p_act(PState::Active, Act::Completed), None);
     assert_eq!(rt;
-        p_act(PState::Completing, Act::Completed),
-        Some(PState::Completed)
+        p_act(PState::Compensating, Act::Fail),
+        Some(PState::FailingCompensating)
     );
-    assert_eq!(rt; p_says(PState::FailingCompleting), Some(Notice::Fail));
+    assert_eq!(rt; p_act(PState::Completed, Act::Fail), None);
+    assert_eq!(rt;
+        p_says(PState::Ended(How::Compensated)),
+        Some(Notice::Compensated)
+    );
+    assert_eq!(rt; p_says(PState::Closing), None);
 }
 
 // The pairs of a state and a notice that have no row, read off the printed tables by hand: for each state the
@@ -107,11 +160,9 @@ fn refuses_what_has_no_row_at_an_end(rt: HostRuntime) {
         Exit,
         CannotComplete,
     ];
-    let table: [(CState, &[Notice]); 19] = [
-        (CState::Active, &[Completed, Closed, Canceled, Compensated]),
-        (CState::Completing, &[Closed, Canceled, Compensated]),
-        (CState::CancelingActive, &[Completed, Closed, Compensated]),
-        (CState::CancelingCompleting, &[Closed, Compensated]),
+    let table: [(CState, &[Notice]); 16] = [
+        (CState::Active, &[Closed, Canceled, Compensated]),
+        (CState::Canceling, &[Closed, Compensated]),
         (
             CState::Completed,
             &[Closed, Canceled, Compensated, Fail, Exit, CannotComplete],
@@ -137,17 +188,6 @@ fn refuses_what_has_no_row_at_an_end(rt: HostRuntime) {
         ),
         (
             CState::FailingCanceling,
-            &[
-                Completed,
-                Closed,
-                Canceled,
-                Compensated,
-                Exit,
-                CannotComplete,
-            ],
-        ),
-        (
-            CState::FailingCompleting,
             &[
                 Completed,
                 Closed,
@@ -207,44 +247,51 @@ fn refuses_what_has_no_row_at_a_participant(rt: HostRuntime) {
         Exited,
         NotCompleted,
     ];
-    let table: [(PState, &[Notice]); 19] = [
+    let table: [(PState, &[Notice]); 17] = [
         (
             PState::Active,
-            &[Close, Compensate, Failed, Exited, NotCompleted],
-        ),
-        (
-            PState::Completing,
-            &[Close, Compensate, Failed, Exited, NotCompleted],
+            &[Complete, Close, Compensate, Failed, Exited, NotCompleted],
         ),
         (
             PState::Canceling,
-            &[Close, Compensate, Failed, Exited, NotCompleted],
+            &[Complete, Close, Compensate, Failed, Exited, NotCompleted],
         ),
-        (PState::Completed, &[Failed, Exited, NotCompleted]),
-        (PState::Closing, &[Compensate, Failed, Exited, NotCompleted]),
-        (PState::Compensating, &[Close, Failed, Exited, NotCompleted]),
+        (PState::Completed, &[Complete, Failed, Exited, NotCompleted]),
+        (
+            PState::Closing,
+            &[Complete, Compensate, Failed, Exited, NotCompleted],
+        ),
+        (
+            PState::Compensating,
+            &[Complete, Close, Failed, Exited, NotCompleted],
+        ),
         (
             PState::FailingActive,
-            &[Close, Compensate, Exited, NotCompleted],
+            &[Complete, Close, Compensate, Exited, NotCompleted],
         ),
         (
             PState::FailingCanceling,
-            &[Close, Compensate, Exited, NotCompleted],
+            &[Complete, Close, Compensate, Exited, NotCompleted],
         ),
         (
-            PState::FailingCompleting,
-            &[Close, Compensate, Exited, NotCompleted],
+            PState::FailingCompensating,
+            &[Complete, Close, Exited, NotCompleted],
         ),
-        (PState::FailingCompensating, &[Close, Exited, NotCompleted]),
-        (PState::NotCompleting, &[Close, Compensate, Failed, Exited]),
-        (PState::Exiting, &[Close, Compensate, Failed, NotCompleted]),
-        (PState::Ended(How::Failed), &[]),
-        (PState::Ended(How::Exited), &[]),
-        (PState::Ended(How::NotCompleted), &[]),
-        (PState::Ended(How::Canceled), &[]),
-        (PState::Ended(How::Closed), &[]),
-        (PState::Ended(How::Compensated), &[]),
-        (PState::Ended(How::Refused), &[]),
+        (
+            PState::NotCompleting,
+            &[Complete, Close, Compensate, Failed, Exited],
+        ),
+        (
+            PState::Exiting,
+            &[Complete, Close, Compensate, Failed, NotCompleted],
+        ),
+        (PState::Ended(How::Failed), &[Complete]),
+        (PState::Ended(How::Exited), &[Complete]),
+        (PState::Ended(How::NotCompleted), &[Complete]),
+        (PState::Ended(How::Canceled), &[Complete]),
+        (PState::Ended(How::Closed), &[Complete]),
+        (PState::Ended(How::Compensated), &[Complete]),
+        (PState::Ended(How::Refused), &[Complete]),
     ];
     for (state, empty) in table {
         for notice in columns {

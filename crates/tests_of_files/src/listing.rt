@@ -1,8 +1,8 @@
 //! Listings that were written out by hand.
 
-use crate::{journal, list, put_end, put_line};
 use ba_core::{Act, Kind, List, Memory, Notice, Octets, Protocol, Verdict};
 use ba_journal::Scan;
+use ba_listing::{journal, list, put_end, put_line};
 use ba_memory::{Out, Text};
 use ba_message::Epr;
 use ba_record::Record;

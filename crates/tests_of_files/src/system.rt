@@ -1,8 +1,8 @@
 //! A reader, a writer, a file, a connection and a clock are used once through their traits, with a failure in
 //! the middle.
 
-use crate::{FileDisk, ReadSource, SystemClock, TcpLink, WriteSink};
 use ba_ports::{Clock, Disk, Failed, Link, Sink, Source};
+use ba_system::{FileDisk, ReadSource, SystemClock, TcpLink, WriteSink};
 use std::fs::OpenOptions;
 use std::io::{ErrorKind, Read, Write};
 use std::net::{TcpListener, TcpStream};

@@ -1,8 +1,8 @@
 //! Files on a disk in memory, and what a load finds in them.
 
-use crate::JournalFault;
-use crate::readings::{Reading, Tail, read_file};
 use ba_core::{List, Octets};
+use ba_journal::JournalFault;
+use ba_journal::readings::{Reading, Tail, read_file};
 use ba_memory::MemDisk;
 use ba_ports::{Disk, Faulty, Image};
 use std::alloc::Global;

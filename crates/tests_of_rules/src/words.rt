@@ -1,7 +1,7 @@
 //! Each public call is made once where there is memory, which no contract promises, and codes, names and
 //! texts are compared with their printed forms.
 
-use crate::{
+use ba_core::{
     Act, CState, Code, How, Id, Kind, List, Notice, PState, Protocol, StateName, Verdict, c_name,
     code_of, name_of, number_of, p_name,
 };

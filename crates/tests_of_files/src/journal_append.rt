@@ -3,8 +3,8 @@
 ghost use Rattle.std.specs.Prelude.{◌≡◌, length, IfOk};
 ghost use Rattle.ba_memory.specs.DiskValue.{bytes_of};
 
-use crate::{Journal, JournalFault, Scan, ScanFault, scan};
 use ba_core::List;
+use ba_journal::{Journal, JournalFault, Scan, ScanFault, scan};
 use ba_memory::MemDisk;
 use ba_ports::{Disk, Faulty, Image};
 use ba_record::Record;

@@ -2,8 +2,8 @@
 
 ghost use Rattle.std.specs.Prelude.{◌≡◌, ◌+◌, ◌≤◌, length, None, IsTrue};
 
-use crate::Journal;
 use ba_core::Memory;
+use ba_journal::Journal;
 use ba_memory::MemDisk;
 use ba_ports::{Disk, Faulty, Image};
 use ba_record::Record;

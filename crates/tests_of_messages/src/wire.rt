@@ -1,11 +1,11 @@
 //! A worked Register, a parameter that is named as a header, and envelopes that are refused. What they mean was worked
 //! out by hand.
 
-use crate::{Decoded, WireFault, decode_tree};
 use ba_core::{List, Memory, Notice, Octets, Protocol};
 use ba_message::{Epr, Message};
 use ba_shape::text_of;
 use ba_soap::{Header, SoapFault};
+use ba_wire::{Decoded, WireFault, decode_tree};
 use ba_xml::{XmlFault, read};
 use std::alloc::Global;
 use std::test::Fail;

@@ -1,7 +1,7 @@
 //! A request and a response are written whole to a link in memory.
 
-use crate::{Body, WriteFault, write_request, write_response};
 use ba_core::List;
+use ba_http_writer::{Body, WriteFault, write_request, write_response};
 use ba_memory::{Out, ScriptLink, Text};
 use ba_message::dialable;
 use std::alloc::Global;

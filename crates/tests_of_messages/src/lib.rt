@@ -1,0 +1,13 @@
+//! Tests of trees, of messages and of their texts: each public call once, and what no clause says.
+#![tactic(auto)]
+
+#[cfg(test)]
+mod check;
+#[cfg(test)]
+mod http_writer;
+#[cfg(test)]
+mod message;
+#[cfg(test)]
+mod tree;
+#[cfg(test)]
+mod wire;
