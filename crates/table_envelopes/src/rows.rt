@@ -1,6 +1,7 @@
 //! The forms of rows, and how rows write bytes.
 
 use std::alloc::{AllocError, Global};
+use table_rows::{put_piece, repeated};
 
 /// The start tag of the envelopes that rows write in parts.
 const START: &str =
@@ -64,13 +65,6 @@ fn put_braces(inside: &str, bytes: &mut Vec<u8>) -> Result<(), AllocError> {
     }
 }
 
-/// How many times a piece stands, and the piece.
-fn repeated(inside: &str) -> Option<(u32, &str)> {
-    let (count, piece) = inside.split_once('*')?;
-    let times = count.parse::<u32>().ok()?;
-    Some((times, piece))
-}
-
 /// The namespace that rows name by this word.
 fn namespace(word: &str) -> &'static [u8] {
     if word == "soap" {
@@ -85,28 +79,5 @@ fn namespace(word: &str) -> &'static [u8] {
         ba_tree::OWN_SPACE
     } else {
         b"no such namespace"
-    }
-}
-
-/// Appends the bytes of a piece without braces.
-fn put_piece(piece: &str, bytes: &mut Vec<u8>) -> Result<(), AllocError> {
-    for (index, part) in piece.split('\\').enumerate() {
-        match part.as_bytes() {
-            [high, low, rest @ ..] if index != 0 => {
-                bytes.push(digit(*high).wrapping_mul(16).wrapping_add(digit(*low)))?;
-                bytes.extend_from_slice(rest)?;
-            }
-            whole => bytes.extend_from_slice(whole)?,
-        }
-    }
-    Ok(())
-}
-
-/// What a digit stands for, from `0` to `f`.
-fn digit(digit: u8) -> u8 {
-    if digit >= b'a' {
-        digit.wrapping_sub(b'a').wrapping_add(10)
-    } else {
-        digit.wrapping_sub(b'0')
     }
 }

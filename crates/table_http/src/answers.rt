@@ -1,12 +1,13 @@
 //! The answers to rows: what messages say, and why they are refused.
 
-use crate::rows::{Form, bytes_of, form_of};
+use crate::rows::{Form, form_of};
 use ba_core::List;
 use ba_http::{Reply, Request, read_reply, read_request};
 use ba_http_head::HttpFault;
 use ba_memory::{Out, ScriptLink, Text};
 use ba_ports::Link;
 use std::alloc::{AllocError, Global};
+use table_rows::bytes_of;
 
 /// The answer to a row.
 pub fn answer(alloc: Global, row: &str) -> Result<String, AllocError> {

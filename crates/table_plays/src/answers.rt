@@ -1,13 +1,13 @@
 //! The answers to rows.
 
-use crate::rows::{Condition, bytes_of, condition_of};
+use crate::rows::{Condition, condition_of, script_bytes};
 use crate::runs::{Run, run_of};
 use std::alloc::{AllocError, Global};
 
 /// The answer to a row that holds a script.
 pub fn row_answer(alloc: Global, row: &str) -> Result<String, AllocError> {
     let (condition, written) = condition_of(row);
-    let script = bytes_of(alloc, written)?;
+    let script = script_bytes(alloc, written)?;
     match condition {
         Condition::Nothing => answer_in_any_pieces(alloc, script.as_slice()),
         _ => answer_of(alloc, &run_of(alloc, script.as_slice(), 7, condition)?),

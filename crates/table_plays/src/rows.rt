@@ -1,6 +1,7 @@
 //! The forms of rows, and how rows write bytes.
 
 use std::alloc::{AllocError, Global};
+use table_rows::bytes_of;
 
 /// What happens to a replay from outside.
 #[derive(Clone, Copy)]
@@ -39,58 +40,13 @@ fn condition_in(words: &str) -> Option<Condition> {
     Some(Condition::Room(number.parse::<u64>().ok()?))
 }
 
-/// The bytes that a row writes.
-pub fn bytes_of(alloc: Global, written: &str) -> Result<Vec<u8>, AllocError> {
-    let mut bytes = Vec::new(alloc);
-    for (index, part) in written.split('{').enumerate() {
-        match repeated(part) {
-            Some((times, piece, rest)) if index != 0 => {
-                for _ in 0..times {
-                    put_piece(piece, &mut bytes)?;
-                }
-                put_piece(rest, &mut bytes)?;
-            }
-            _ => put_piece(part, &mut bytes)?,
+/// The bytes of the script that a row writes, in which a semicolon ends a line.
+pub fn script_bytes(alloc: Global, written: &str) -> Result<Vec<u8>, AllocError> {
+    let mut bytes = bytes_of(alloc, written)?;
+    for byte in bytes.iter_mut() {
+        if *byte == b';' {
+            *byte = b'\n';
         }
     }
     Ok(bytes)
-}
-
-/// How many times a piece stands, the piece, and what follows.
-fn repeated(part: &str) -> Option<(u32, &str, &str)> {
-    let (repetition, rest) = part.split_once('}')?;
-    let (count, piece) = repetition.split_once('*')?;
-    let times = count.parse::<u32>().ok()?;
-    Some((times, piece, rest))
-}
-
-/// Appends the bytes of a piece without repetitions.
-fn put_piece(piece: &str, bytes: &mut Vec<u8>) -> Result<(), AllocError> {
-    for (index, part) in piece.split('\\').enumerate() {
-        match part.as_bytes() {
-            [high, low, rest @ ..] if index != 0 => {
-                bytes.push(digit(*high).wrapping_mul(16).wrapping_add(digit(*low)))?;
-                put_lines(rest, bytes)?;
-            }
-            whole => put_lines(whole, bytes)?,
-        }
-    }
-    Ok(())
-}
-
-/// Appends bytes in which a semicolon ends a line.
-fn put_lines(written: &[u8], bytes: &mut Vec<u8>) -> Result<(), AllocError> {
-    for byte in written {
-        bytes.push(if *byte == b';' { b'\n' } else { *byte })?;
-    }
-    Ok(())
-}
-
-/// What a digit stands for, from `0` to `f`.
-fn digit(digit: u8) -> u8 {
-    if digit >= b'a' {
-        digit.wrapping_sub(b'a').wrapping_add(10)
-    } else {
-        digit.wrapping_sub(b'0')
-    }
 }

@@ -1,12 +1,13 @@
 //! The answers to rows.
 
-use crate::rows::{Form, bytes_of, form_of};
+use crate::rows::{Form, form_of};
 use crate::shown::{put_bytes, put_fault, put_tree};
 use crate::trees::tree_of;
 use ba_core::List;
 use ba_tree::Tree;
 use ba_xml::{Reason, XmlFault, read, writable, write};
 use std::alloc::{AllocError, Global};
+use table_rows::bytes_of;
 
 /// What stands before the one text where that is put.
 const BEFORE: &[u8] = b"<!-- before -->";
