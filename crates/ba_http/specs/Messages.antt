@@ -90,7 +90,7 @@ MessageSo heading taken left (Err (BadChunk place)) = (n : ℕ) × (n ≤ length
 MessageSo heading taken left (Err Truncated) = IsCutShort heading taken × IsAtEnd left
 MessageSo heading taken left (Err Read) = ⊤
 
--- Before the last read nothing had shown itself, and a read is of one block.
+-- Bytes were taken with which nothing had shown itself yet, and then a block at most.
 abbrev pub Reads : Heading → Option (List ℕ) → Option (List ℕ) → Result Message HttpFault → Type 0
 Reads heading old new result =
     (before : List ℕ) × (last : List ℕ) × Consumes old new (before ++ last) × IsUnfinished heading before × (length last ≤ BLOCK)

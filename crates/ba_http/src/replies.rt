@@ -17,8 +17,7 @@ pub struct Reply {
     pub body: Octets,
 }
 
-/// Reads a reply, and no further than it reaches but for what its last read brought along. Without a length its body goes
-/// on to the end of the input.
+/// Reads a reply, and takes less than a block of what follows it. Without a length its body goes on to the end of the input.
 pub fn read_reply<K: Link>(alloc: Global, link: &mut K) -> Result<Reply, HttpFault>
     ensures reply { Reads Heading.Reply (K.left link.old) (K.left link.new) (reply_message result) }
 

@@ -18,7 +18,7 @@ pub struct Request {
     pub body: Octets,
 }
 
-/// Reads a request, and no further than it reaches but for what its last read brought along.
+/// Reads a request, and takes less than a block of what follows it.
 pub fn read_request<K: Link>(alloc: Global, link: &mut K) -> Result<Request, HttpFault>
     ensures request { Reads Heading.Request (K.left link.old) (K.left link.new) (request_message result) }
 

@@ -5,8 +5,8 @@ use Rattle.ba_http_head.specs.declared.blocks.TheConstants.{BLOCK}
 use Rattle.ba_http_head.specs.declared.faults.HttpFault.{HttpFault}
 use Rattle.ba_http_head.specs.declared.faults.HttpFault.TheVariants.{Memory, BadHead, Length, TooLarge, BadChunk, Truncated, Read}
 
--- Of a body some bytes were at hand, and these were taken: no read was made once so many were there, and a read is of
--- one block.
+-- Of a body some bytes were at hand, and these were taken: none, or some with which there weren't so many yet, and then a
+-- block at most.
 abbrev pub StopsAt : List ℕ → ℕ → List ℕ → Type 0
 StopsAt hand count taken =
     (taken ≡ [])

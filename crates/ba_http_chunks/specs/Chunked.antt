@@ -6,8 +6,8 @@ use Rattle.ba_http_head.specs.declared.faults.HttpFault.{HttpFault}
 use Rattle.ba_http_head.specs.declared.faults.HttpFault.TheVariants.{Memory, BadHead, Length, TooLarge, BadChunk, Truncated, Read}
 use Rattle.ba_http_chunks.specs.Transfers.{IsTransfer, IsUnended, Breaks, Passes}
 
--- Of a transfer some bytes were at hand, and these were taken: before the last read nothing had shown itself, and a read is
--- of one block.
+-- Of a transfer some bytes were at hand, and these were taken: none, or some with which nothing had shown itself yet, and then
+-- a block at most.
 abbrev pub StopsUnended : List ℕ → List ℕ → Type 0
 StopsUnended hand taken =
     (taken ≡ []) ⊎ ((before : List ℕ) × (last : List ℕ) × (taken ≡ before ++ last) × IsUnended (hand ++ before) × (length last ≤ BLOCK))

@@ -36,7 +36,7 @@ pub record IsHead (heading : Heading) (prefix : List ℕ) (start : StartLine) (l
   pub shows : Shows heading prefix Whole
   pub says : SaysHead heading prefix start length
 
--- a head, and the bytes after it that the last read brought along
+-- a head, and the bytes after it that were taken with it
 pub record Opening : Type 0 where
   pub start : StartLine
   pub length : Option Length
@@ -67,7 +67,7 @@ OpeningSo heading taken left (Err (BadChunk place)) = ⊥
 OpeningSo heading taken left (Err Truncated) = IsOpen heading taken × IsAtEnd left
 OpeningSo heading taken left (Err Read) = ⊤
 
--- Before the last read nothing had shown itself, and a read is of one block.
+-- Bytes were taken with which nothing had shown itself yet, and then a block at most.
 abbrev pub Opens : Heading → Option (List ℕ) → Option (List ℕ) → Result Opening HttpFault → Type 0
 Opens heading old new result =
     (before : List ℕ) × (last : List ℕ) × Consumes old new (before ++ last) × IsOpen heading before × (length last ≤ BLOCK)

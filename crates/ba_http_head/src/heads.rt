@@ -24,7 +24,7 @@ pub struct Head {
     pub method: Octets,
     pub path: Octets,
     pub length: Length,
-    /// What the last read brought along after the head.
+    /// What was taken after the head: less than a block.
     pub rest: Octets,
 }
 
@@ -33,7 +33,7 @@ pub struct Head {
 pub struct ReplyHead {
     pub code: u16,
     pub length: Option<Length>,
-    /// What the last read brought along after the head.
+    /// What was taken after the head: less than a block.
     pub rest: Octets,
 }
 

@@ -8,7 +8,7 @@ use Rattle.ba_http_head.specs.declared.lengths.Length.{Length}
 use Rattle.ba_http_chunks.specs.Transfers.{whole, broken, large}
 use Rattle.ba_http.specs.Messages.{EndsBody, IsShort}
 
--- of the body some bytes were at hand, and these were taken: before the last read nothing had shown itself
+-- of the body some bytes were at hand, and these were taken: none, or some with which nothing had shown itself yet, and then a block
 abbrev pub StopsShort : Option Length → List ℕ → List ℕ → Type 0
 StopsShort said hand taken =
     (taken ≡ [])

@@ -28,7 +28,7 @@ TrailerSo bytes count left (Err (BadChunk place)) =
 TrailerSo bytes count left (Err Truncated) = IsOpen Trailer bytes × IsAtEnd left
 TrailerSo bytes count left (Err Read) = ⊤
 
--- of a trailer some bytes were at hand, and these were taken: before the last read nothing had shown itself
+-- of a trailer some bytes were at hand, and these were taken: none, or some with which nothing had shown itself yet, and then a block
 abbrev pub StopsOpen : List ℕ → List ℕ → Type 0
 StopsOpen hand taken =
     (taken ≡ [])

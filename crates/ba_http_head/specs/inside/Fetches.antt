@@ -29,7 +29,7 @@ ended Whole bytes n = Ok (record { bytes = bytes; len = n })
 ended (Bad place) bytes n = Err (BadHead place)
 ended Large bytes n = Err TooLarge
 
--- Before the last read nothing had shown itself, and a read is of one block.
+-- Bytes were taken with which nothing had shown itself yet, and then a block at most.
 abbrev pub Fetches : Heading → Option (List ℕ) → Option (List ℕ) → Result Fetched HttpFault → Type 0
 Fetches heading old new result =
     (before : List ℕ) × (last : List ℕ) × Consumes old new (before ++ last) × IsOpen heading before × (length last ≤ BLOCK)
