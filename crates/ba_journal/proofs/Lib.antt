@@ -9,6 +9,7 @@ pub mod Looking
 pub mod Meanings
 pub mod NewFile
 pub mod OneMore
+pub mod Paid
 pub mod ReadingOf
 pub mod Sizes
 pub mod Turns

@@ -1,5 +1,7 @@
 -- Believe: what a load finds in a journal's file, and that this is a function of its bytes.
-use Rattle.std.specs.Prelude.{◌≡◌, ◌≢◌, ℕ, suc, zero, ◌+◌, ◌-◌, ◌<◌, ◌^◌, true, if◌then◌else◌, nat_eq, List, [], ◌∷◌, length, drop, Option, None, Some, Result, Ok, Err}
+use Rattle.std.specs.Prelude.{◌≡◌, ◌≢◌, ℕ, suc, zero, ◌+◌, ◌-◌, ◌*◌, ◌<◌, ◌≤◌, ◌^◌, true, if◌then◌else◌, nat_eq, List, [], ◌∷◌, length, drop, Option, None, Some, Result, Ok, Err}
+use Rattle.std.specs.List.{AllByRecursion}
+use Rattle.ba_record.specs.Coding.{InRange}
 use Rattle.ba_record.specs.Reading.{reading}
 use Rattle.ba_record.specs.declared.records.Record.{Record}
 use Rattle.ba_record.specs.declared.records.RecordFault.{RecordFault}
@@ -28,6 +30,15 @@ ReadsAs file (Found records gate tail) = Finds file records gate tail
 abbrev pub IsWithin : Reading → Type 0
 IsWithin Fresh = Unit {0}
 IsWithin (Found records gate tail) = gate + 1 < 2 ^ 64
+
+-- each record is in its ranges, and costs six bytes of the file at least: a gate, the size in four, and a payload
+abbrev pub ArePaid : List Record → ℕ → Type 0
+ArePaid records gate = AllByRecursion InRange records × (16 + 6 * length records ≤ gate)
+
+-- so much holds of what was read, whatever the disk
+abbrev pub IsPaid : Reading → Type 0
+IsPaid Fresh = Unit {0}
+IsPaid (Found records gate tail) = ArePaid records gate
 
 -- What is found in a file, computed from its bytes
 

@@ -1,8 +1,9 @@
-use Rattle.std.proofs.Common.{◌≡◌, ℕ, ◌-◌, ◌<◌, ap, length-drop, ◌+◌, drop, length, sym, subst, arith, rules, IsTrue}
+use Rattle.std.proofs.Common.{◌≡◌, ℕ, ◌-◌, ◌<◌, ◌∙◌, ap, length-drop, ◌+◌, drop, length, sym, subst, arith, rules, IsTrue}
 use Rattle.ba_journal.specs.inside.Blocks.{Begins, BeginsFrames}
 use Rattle.ba_journal.specs.inside.Looks.{Looked}
 use Rattle.ba_journal.proofs.BlockReads.{Stands, begins_there, stands_after, stands_on, stands_last, stands_refused}
 use Rattle.ba_journal.proofs.Looking.{looked_on, broke_on}
+use Rattle.ba_journal.proofs.Paid.{paid_at, paid_on}
 use Rattle.ba_journal.proofs.readings.read_frames.Goals as goal
 use Rattle.ba_journal.proofs.readings.read_frames.Goals.{After-fill, After-bytes}
 use Rattle.ba_journal.proofs.readings.read_frames.Given.{Over}
@@ -71,6 +72,9 @@ frames-preserved g c =
       within = let ends : 5 + length c.in-Some.shown.now < c.fill.new.self.len - c.fill.new.self.place = subst (λ (n : ℕ). 5 + length c.in-Some.shown.now < n) c.left-left.ensures.left c.in-Some.ensures.before_the_end in
           let there : c.pass.new.self.place ≡ c.fill.new.self.place + (5 + length c.in-Some.shown.now) = search rules in
           omega (arith, ends, there, c.left-left.ensures.small);
+      paid = let more = c.in_default-take_shown.ensures.ok in
+          rw more.2 (paid_on c.frames.records c.frames.blocks.place c.pass.new.self.place c.in-Some.shown.now more.0 c.frames.invariant.paid c.in-Some.ensures.are more.1
+          (c.pass.ensures.place ∙ ap (λ (n : ℕ). n + (5 + length c.in-Some.shown.now)) c.fill.ensures.place));
       looked = looked_at g (goal.at.frames-preserved g c).After-fill;
       stands = λ f b.
           let file = g.D.Disk.seen c.args.disk.now in
@@ -88,3 +92,8 @@ returns-in_default-clause-broke_off g c = λ is.
     let D = g.D.Disk in
     broke_on D.follows D.seen D.may_leave D.later D.left_between D.driven D.faults g.met.D.Disk.driven_on
     c.args.disk.now c.frames.disk c.fill.new.disk c.frames.invariant.looked c.in_default.ensures.broke_off
+
+pub returns-in_default-shown_payload-clause-paid :
+    goal.returns-in_default-shown_payload-clause-paid
+returns-in_default-shown_payload-clause-paid g c =
+    paid_at c.frames.records c.frames.blocks.place c.place.result (c.place.ensures ∙ c.fill.ensures.place) c.frames.invariant.paid
