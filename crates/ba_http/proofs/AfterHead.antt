@@ -1,19 +1,16 @@
 -- A head, and then its body; for the clauses `request` and `reply`.
-use Rattle.std.proofs.Common.{◌≡◌, ℕ, ◌+◌, ◌≤◌, ◌⊎◌, inl, inr, List, [], ◌++◌, length, take, drop, refl, sym, ap, ◌∙◌, subst, arith, append-nil, append_assoc, length-append, take-append-drop, Option, None, Some, Result, Ok, Err}
-use Rattle.std.proofs.lemmas.List.{length-take-le}
+use Rattle.std.proofs.Common.{◌≡◌, ℕ, ◌+◌, ◌≤◌, inl, inr, List, ◌++◌, length, take, drop, sym, ap, ◌∙◌, subst, arith, append-nil, append_assoc, length-append, take-append-drop, Option, None, Result, Ok, Err}
 use Rattle.std.proofs.Math.Seq.{take-append-add}
-use Rattle.std.specs.Io.KnownBytes.{Consumes, IsAtEnd}
+use Rattle.std.specs.Io.KnownBytes.{Consumes}
 use Rattle.std.proofs.KnownBytes.{Consumes-trans}
-use Rattle.ba_http_head.specs.declared.blocks.TheConstants.{BLOCK}
 use Rattle.ba_http_head.specs.declared.faults.HttpFault.{HttpFault}
 use Rattle.ba_http_head.specs.declared.faults.HttpFault.TheVariants.{Memory, BadHead, Length as NoLength, TooLarge, BadChunk, Truncated, Read}
 use Rattle.ba_http_head.specs.declared.headings.Heading.{Heading}
 use Rattle.ba_http_head.specs.declared.lengths.Length.{Length}
-use Rattle.ba_http_head.specs.HeadLines.{IsOpen}
 use Rattle.ba_http_head.specs.Heads.{StartLine, IsHead, Opening, OpeningSo, Opens}
 use Rattle.ba_http_chunks.specs.Transfers.{Sight, whole, broken, large}
-use Rattle.ba_http.specs.Messages.{EndsBody, IsShort, Message, ShowsAfterHead, Decides, IsAfterHead, IsUnfinished, MessageSo, Reads}
-use Rattle.ba_http.specs.inside.Bodies.{StopsShort, BodySo, ReadsBody}
+use Rattle.ba_http.specs.Messages.{EndsBody, IsShort, Message, ShowsAfterHead, IsUnfinished, MessageSo, Reads}
+use Rattle.ba_http.specs.inside.Bodies.{BodySo, ReadsBody}
 
 abbrev pub message_or : StartLine → Result (List ℕ) HttpFault → Result Message HttpFault
 message_or start (Ok body) = Ok (record { start = start; body = body })

@@ -1,4 +1,11 @@
 pub mod AfterHead
+pub mod AtInput
+pub mod BodiesShow
+pub mod HeadsShow
+pub mod LittleMore
+pub mod MessagesShow
+pub mod NotNever
 pub mod OneMessage
 pub mod Taken
+pub mod TwoSteps
 pub mod WholeMessages

@@ -1,22 +1,21 @@
 -- The message of given bytes is one, and so is its refusal; for the laws.
-use Rattle.std.proofs.Common.{◌≡◌, ℕ, ◌+◌, ◌-◌, ◌<◌, ◌≤◌, ◌⊎◌, inl, inr, List, [], ◌∷◌, ◌++◌, length, take, drop, refl, sym, ap, ◌∙◌, subst, arith, append-nil, append_assoc, length-append, length-drop, take-append-drop, take_all, Option, None, Some, Result, Ok, Err}
-use Rattle.std.proofs.lemmas.List.{length-take-le, take-take, drop-append-le}
-use Rattle.std.proofs.Math.Seq.{take-append_seam, take-append-add}
+use Rattle.std.proofs.Common.{◌≡◌, ℕ, ◌+◌, ◌≤◌, inl, inr, List, [], ◌∷◌, ◌++◌, length, take, drop, refl, sym, ap, ◌∙◌, subst, arith, append-nil, append_assoc, length-append, take-append-drop, take_all, Option, None, Some, Result, Ok, Err}
+use Rattle.std.proofs.lemmas.List.{length-take-le, take-take}
+use Rattle.std.proofs.Math.Seq.{take-append_seam}
 use Rattle.ba_http_head.specs.declared.faults.HttpFault.{HttpFault}
 use Rattle.ba_http_head.specs.declared.faults.HttpFault.TheVariants.{Memory, BadHead, Length as NoLength, TooLarge, BadChunk, Truncated, Read}
 use Rattle.ba_http_head.specs.declared.headings.Heading.{Heading}
 use Rattle.ba_http_head.specs.declared.lengths.Length.{Length}
 use Rattle.ba_http_head.specs.declared.lengths.Length.TheVariants.{Counted, Chunked}
-use Rattle.ba_http_head.specs.declared.lengths.TheConstants.{MOST_BODY}
 use Rattle.ba_http_head.specs.declared.scans.Shown.{Shown}
 use Rattle.ba_http_head.specs.declared.scans.Shown.TheVariants.{Whole, Bad, Large}
-use Rattle.ba_http_head.specs.HeadLines.{IsOpen, Settles}
+use Rattle.ba_http_head.specs.HeadLines.{IsOpen}
 use Rattle.ba_http_head.specs.Heads.{StartLine, IsHead, SaysHead}
 use Rattle.ba_http_head.specs.Looks.{Shows}
 use Rattle.ba_http_head.proofs.Once.{first_of, shows_once, says_one}
-use Rattle.ba_http_chunks.specs.Transfers.{IsUnended, ShowsBody, Sight, whole, broken, large}
+use Rattle.ba_http_chunks.specs.Transfers.{Sight, whole, broken, large}
 use Rattle.ba_http_chunks.proofs.Sights.{sights_once, sight_settles}
-use Rattle.ba_http.specs.Messages.{EndsBody, IsShort, Message, ShowsAfterHead, Decides, IsAfterHead, IsUnfinished}
+use Rattle.ba_http.specs.Messages.{EndsBody, IsShort, Message, Decides, IsUnfinished}
 
 -- what is answered where this shows itself of the body
 abbrev answer_of : StartLine → Sight → Result Message HttpFault
@@ -30,7 +29,7 @@ refusal_of Whole = Memory
 refusal_of (Bad place) = BadHead place
 refusal_of Large = TooLarge
 
-abbrev says_length : Option Length → Result (Option Length) HttpFault
+abbrev pub says_length : Option Length → Result (Option Length) HttpFault
 says_length said = Ok said
 
 abbrev says_fault : HttpFault → Result (Option Length) HttpFault
@@ -96,10 +95,10 @@ module _ (bytes : List ℕ) (n : ℕ) (within : n ≤ length bytes) (prefix tran
   sum : n ≡ length prefix + length transfer
   sum = sym (length-take-le n bytes within) ∙ ap length cut ∙ length-append prefix transfer
 
-  inner : length prefix ≤ length bytes
+  pub inner : length prefix ≤ length bytes
   inner = omega (arith, sum, within)
 
-  prefix_is : take (length prefix) bytes ≡ prefix
+  pub prefix_is : take (length prefix) bytes ≡ prefix
   prefix_is =
       sym (take-take (length prefix) n bytes (omega (arith, sum))) ∙ ap (take (length prefix)) cut ∙ take-append_seam prefix transfer
 
@@ -187,7 +186,7 @@ decides_once heading bytes m n a b first second x y =
     once heading bytes m n first second a b (ruled heading (take m bytes) a x) (ruled heading (take n bytes) b y)
 
 -- what shows itself at a prefix isn't open
-closed : (heading : Heading) (bytes : List ℕ) (k : ℕ) (shown : Shown) → k ≤ length bytes → Shows heading (take k bytes) shown
+pub closed : (heading : Heading) (bytes : List ℕ) (k : ℕ) (shown : Shown) → k ≤ length bytes → Shows heading (take k bytes) shown
     → IsOpen heading bytes → ⊥
 closed heading bytes k shown within shows yet = yet k within (first_of heading (take k bytes) shown shows).0
 

@@ -1,5 +1,5 @@
 -- A head, and then a body that is taken on as one list; for the clauses `request` and `reply`.
-use Rattle.std.proofs.Common.{◌≡◌, ℕ, List, [], subst, Option, Result, Ok, Err}
+use Rattle.std.proofs.Common.{◌≡◌, ℕ, List, [], subst, Option, Result, Ok}
 use Rattle.ba_http_head.specs.declared.faults.HttpFault.{HttpFault}
 use Rattle.ba_http_head.specs.declared.headings.Heading.{Heading}
 use Rattle.ba_http_head.specs.Heads.{Opening, Opens}

@@ -1,4 +1,4 @@
-use Rattle.std.proofs.Common.{Ok, Err, refl}
+use Rattle.std.proofs.Common.{Ok, Err}
 use Rattle.ba_http_head.specs.declared.headings.Heading.TheVariants.{Reply}
 use Rattle.ba_http_head.specs.Heads.{answers}
 use Rattle.ba_http.proofs.AfterHead.{no_head}

@@ -1,4 +1,4 @@
-use Rattle.std.proofs.Common.{Some, Ok, Err, refl}
+use Rattle.std.proofs.Common.{Some, Ok, Err}
 use Rattle.ba_http_head.specs.declared.headings.Heading.TheVariants.{Request}
 use Rattle.ba_http_head.specs.Heads.{asks}
 use Rattle.ba_http.proofs.AfterHead.{no_head}

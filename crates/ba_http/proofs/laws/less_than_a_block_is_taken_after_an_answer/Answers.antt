@@ -1,0 +1,8 @@
+use Rattle.ba_http.proofs.LittleMore.{after_message, after_refusal}
+use Rattle.ba_http.proofs.laws.less_than_a_block_is_taken_after_an_answer.Goals as goal
+
+pub returns-clause-message : goal.returns-clause-message
+returns-clause-message c = after_message
+
+pub returns-clause-refusal : goal.returns-clause-refusal
+returns-clause-refusal c = after_refusal
