@@ -1,4 +1,3 @@
-pub mod Answered
 pub mod Complete
 pub mod CompleteCharacters
 pub mod CompleteContent
@@ -19,7 +18,6 @@ pub mod PutOn
 pub mod ReadFit
 pub mod ReadLegal
 pub mod ReadLimits
-pub mod Refused
 pub mod Runs
 pub mod Sound
 pub mod SoundAnswer

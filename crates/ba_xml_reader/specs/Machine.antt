@@ -1,4 +1,4 @@
--- Believe: the one answer to bytes, by a machine that takes them one by one; the laws say by the grammar which it is.
+-- Inside: the answer to bytes by a machine that takes them one by one. The laws of `ba_xml_places` say which it is, without the machine.
 use Rattle.std.specs.Prelude.{ℕ, ◌+◌, List, [], ◌∷◌, Bool, false, cond, ◌==◌, ◌&&◌, nat_lt, Option, Some, None, Result, Ok, Err}
 use Rattle.ba_tree.specs.declared.trees.Content.{Content, out-Content}
 use Rattle.ba_tree.specs.declared.trees.Content.TheOpen.{Content-F}

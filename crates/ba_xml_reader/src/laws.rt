@@ -1,12 +1,10 @@
-//! What holds of every answer of a reader, as laws over all bytes.
+//! What holds of every answer of the machine, as laws over all bytes.
 ghost use Rattle.std.specs.Prelude.{◌≡◌, ◌≢◌, ◌≤◌, ◌+◌, ◌++◌, ℕ, List, length, take, Ok, Err, IsTrue, codes};
 ghost use Rattle.ba_tree.specs.Trees.{is_fit_tree};
 ghost use Rattle.ba_tree.specs.declared.trees.Tree.{Tree};
 ghost use Rattle.ba_xml_grammar.specs.GrammarTexts.{IsXmlText, CanContinue};
-ghost use Rattle.ba_xml_reader.specs.Cuts.{IsTextOrBeginning};
 ghost use Rattle.ba_xml_reader.specs.Fitness.{IsWithinLimits};
 ghost use Rattle.ba_xml_reader.specs.Machine.{xml_answer};
-ghost use Rattle.ba_xml_reader.specs.Refusals.{IsRefusedAs};
 ghost use Rattle.ba_xml_words.specs.declared.faults.Reason.{Reason};
 ghost use Rattle.ba_xml_words.specs.declared.faults.XmlFault.{XmlFault};
 ghost use Rattle.ba_xml_words.specs.declared.faults.XmlFault.TheVariants as fault;
@@ -46,16 +44,6 @@ pub fn refused_fronts_are_dead()
         → CanContinue (take (place + 1) bytes) → ⊥ }
     ensures syntax { (bytes : List ℕ) (place : ℕ) → xml_answer bytes ≡ Err (fault.At Reason.Syntax place)
         → CanContinue (take (place + 1) bytes) → ⊥ }
-{}
-
-/// What refuses bytes says that they are no text, and where they are at fault.
-pub fn refusals_are_explained()
-    ensures { (bytes : List ℕ) (why : Reason) (place : ℕ) → xml_answer bytes ≡ Err (fault.At why place) → IsRefusedAs bytes why place }
-{}
-
-/// The first bytes of a text, however many, are a text themselves, or are refused at their end as too few.
-pub fn a_cut_text_ends_too_early()
-    ensures { (bytes : List ℕ) (tree : Tree) (count : ℕ) → IsXmlText bytes tree → IsTextOrBeginning (take count bytes) }
 {}
 
 /// A tree that is read has at most 32 levels, and at most 32 attributes in an element.
