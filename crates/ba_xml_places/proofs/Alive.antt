@@ -115,7 +115,8 @@ module _ (last : Scan) (b : ℕ) (r : Reason) (w : IsOfTags r) (x : IsReached la
 
 -- ---- the place
 
-pub well_formed : (front : List ℕ) (last : Scan) (n b : ℕ) (r : Reason) → IsOfTags r → run (Going start 0) front ≡ Going last n → IsWhy last b r
+pub well_formed : (front : List ℕ) (last : Scan) (n b : ℕ) (r : Reason) → IsOfTags r → run (Going start 0) front ≡ Going last n
+    → IsWhy last b r
     → (cs : List ℕ) × IsWellFormed (front ++ b ∷ cs)
 well_formed front last n b r w e (inl f) = absurd (no_octets r w (subst (λ d. IsOfOctets d) f (of_octets last.octet b)))
 well_formed front last n b r w e (inr f) =

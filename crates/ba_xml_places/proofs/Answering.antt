@@ -7,18 +7,19 @@ use Rattle.ba_xml_places.proofs.Causes.{unexplained, too_deep, one_too_many}
 use Rattle.ba_xml_places.proofs.Earlier.{none_dead, first_dead, early_alive, text_alive}
 use Rattle.ba_xml_places.proofs.Exact.{IsStop, early_taken, stop, utf8_cause, syntax_cause}
 use Rattle.ba_xml_places.proofs.Exact as exact
-use Rattle.ba_xml_places.proofs.Least.{NoLater, IsRefusedBy, tag_refused, owned}
+use Rattle.ba_xml_places.proofs.Least.{NoLater, IsRefusedBy, tag_refused}
 use Rattle.ba_xml_places.proofs.Sizes.{too_large}
-use Rattle.ba_xml_places.proofs.Table.{dies_later}
-use Rattle.ba_xml_places.specs.Answers.{IsCauseHere, IsFirst, EndsEarly, IsRefusedFor, IsAnswerTo}
+use Rattle.ba_xml_places.proofs.Table.{dies_later, has_cause}
 use Rattle.ba_xml_places.specs.Taken.{IsTaken}
 use Rattle.ba_xml_reader.proofs.Complete.{complete}
 use Rattle.ba_xml_reader.proofs.Dead.{refused_none}
+use Rattle.ba_xml_reader.proofs.Kept.{stays}
+use Rattle.ba_xml_reader.proofs.Runs.{run_append}
 use Rattle.ba_xml_reader.proofs.Sound.{sound}
 use Rattle.ba_xml_reader.proofs.SoundBack.{back}
 use Rattle.ba_xml_reader.proofs.SoundDocuments.{top}
 use Rattle.ba_xml_grammar.specs.Grammar.{written_attribute, written_pairs, written_tag}
-use Rattle.ba_xml_grammar.specs.Places.{IsCause, IsDead, number_of}
+use Rattle.ba_xml_grammar.specs.Places.{IsCause, IsDead, IsLeast, IsTruncated, IsRefused, IsAnswerOf, number_of}
 use Rattle.ba_xml_reader.specs.Machine.{start, run, turned, counted, reason_at, reason_past, finished, answer_by, answer_of, xml_answer}
 use Rattle.ba_xml_words.specs.declared.faults.Reason.{Reason}
 use Rattle.ba_xml_words.specs.declared.faults.Reason.TheVariants as reason
@@ -40,19 +41,19 @@ IsToldBy bytes q m = (r : Reason) × (n : ℕ) × (xml_answer bytes ≡ Err (fau
 told : (bytes : List ℕ) (q : Reason) (m : ℕ) → IsRefusedBy bytes q m → IsToldBy bytes q m
 told bytes q m x = (x.0, x.1, ap answer_of x.2, x.3)
 
-namespace_refused : (bytes : List ℕ) (m : ℕ) → IsCauseHere bytes reason.Namespace m → IsRefusedBy bytes reason.Namespace m
-namespace_refused bytes m c = let x = c.0 in
-    tag_refused bytes m x.1.0 reason.Namespace x.0 x.2 x.2.closing x.1.1 x.1.2 x.3 (x.4.0, refl) x.4.1 c.1
+namespace_refused : (bytes : List ℕ) (m : ℕ) → IsCause bytes reason.Namespace m → IsRefusedBy bytes reason.Namespace m
+namespace_refused bytes m x =
+    tag_refused bytes m x.1.0 reason.Namespace x.0 x.2 x.2.closing x.1.1 x.1.2 x.3 (x.4.0, refl) x.4.1.0 x.4.1.1
 
-depth_refused : (bytes : List ℕ) (m : ℕ) → IsCauseHere bytes reason.Depth m → IsRefusedBy bytes reason.Depth m
-depth_refused bytes m c = let x = c.0 in
-    tag_refused bytes m x.1.0 reason.Depth x.0 x.2 (written_tag x.2.start x.2.closing) x.1.1 x.1.2 x.3 (x.4.0, refl) x.4.1 c.1
+depth_refused : (bytes : List ℕ) (m : ℕ) → IsCause bytes reason.Depth m → IsRefusedBy bytes reason.Depth m
+depth_refused bytes m x =
+    tag_refused bytes m x.1.0 reason.Depth x.0 x.2 (written_tag x.2.start x.2.closing) x.1.1 x.1.2 x.3 (x.4.0, refl) x.4.1.0 x.4.1.1
 
-attributes_refused : (bytes : List ℕ) (m : ℕ) → IsCauseHere bytes reason.Attributes m → IsRefusedBy bytes reason.Attributes m
-attributes_refused bytes m c = let x = c.0 in
+attributes_refused : (bytes : List ℕ) (m : ℕ) → IsCause bytes reason.Attributes m → IsRefusedBy bytes reason.Attributes m
+attributes_refused bytes m x =
     tag_refused bytes m x.1.0 reason.Attributes x.0 x.2
     (written_attribute x.4.1 (written_pairs x.4.2 (x.2.start.space ++ x.2.closing))) x.1.1 x.1.2 x.3
-    (x.4.0, x.4.1, x.4.2, x.4.3, x.4.4, refl) x.4.5 c.1
+    (x.4.0, x.4.1, x.4.2, x.4.3, x.4.4, refl) x.4.5.0 x.4.5.1
 
 -- ---- too many bytes
 
@@ -198,7 +199,7 @@ same_number q r e = sym (numbered q) ∙ ap of_number e ∙ numbered r
 
 -- ---- every cause
 
-cause_told : (bytes : List ℕ) (q : Reason) (m : ℕ) → IsCauseHere bytes q m → IsToldBy bytes q m
+cause_told : (bytes : List ℕ) (q : Reason) (m : ℕ) → IsCause bytes q m → IsToldBy bytes q m
 cause_told bytes reason.NotUtf8 m c = utf8_told bytes m c
 cause_told bytes reason.Syntax m c = syntax_told bytes m c
 cause_told bytes reason.Truncated m c = absurd c
@@ -214,7 +215,7 @@ same_place : (x r : Reason) (m n : ℕ) → (let a : Result Tree XmlFault = Err 
 same_place x r m n e = cc
 
 -- the refusal that is answered comes first
-is_first : (bytes : List ℕ) (r : Reason) (n : ℕ) → xml_answer bytes ≡ Err (fault.At r n) → IsFirst bytes r n
+is_first : (bytes : List ℕ) (r : Reason) (n : ℕ) → xml_answer bytes ≡ Err (fault.At r n) → IsLeast bytes r n
 is_first bytes r n e q m c =
     let x = cause_told bytes q m c in
     subst (λ y. NoLater y n q m) (same_reason x.0 r x.1 n (sym x.2 ∙ e))
@@ -229,7 +230,7 @@ not_refused : (bytes : List ℕ) (q : Reason) (m : ℕ) → IsTaken bytes → Is
 not_refused bytes q m t x = refused_going x.0 x.1 t.1 t.0 (sym x.2 ∙ t.2)
 
 -- where all is taken, nothing is a cause
-taken_free : (bytes : List ℕ) → IsTaken bytes → (q : Reason) (m : ℕ) → IsCauseHere bytes q m → ⊥
+pub taken_free : (bytes : List ℕ) → IsTaken bytes → (q : Reason) (m : ℕ) → IsCause bytes q m → ⊥
 taken_free bytes t reason.NotUtf8 m c = none_dead bytes m t c.0
 taken_free bytes t reason.Syntax m c = none_dead bytes m t c.0
 taken_free bytes t reason.Truncated m c = c
@@ -255,7 +256,7 @@ early_place bytes n e = of_taken (early_taken bytes n e)
 -- ---- the answer
 
 module _ (bytes : List ℕ) where
-  refused_for : (r : Reason) (n : ℕ) → xml_answer bytes ≡ Err (fault.At r n) → IsRefusedFor bytes r n
+  refused_for : (r : Reason) (n : ℕ) → xml_answer bytes ≡ Err (fault.At r n) → IsRefused bytes r n
   refused_for reason.NotUtf8 n e = (utf8_cause bytes n e, is_first bytes reason.NotUtf8 n e)
   refused_for reason.Syntax n e = (syntax_cause bytes n e, is_first bytes reason.Syntax n e)
   refused_for reason.Truncated n e = (
@@ -263,22 +264,22 @@ module _ (bytes : List ℕ) where
     early_place bytes n e,
   )
   refused_for reason.Namespace n e =
-      ((unexplained bytes n e, owned bytes reason.Namespace n tt e), is_first bytes reason.Namespace n e)
-  refused_for reason.Depth n e = ((too_deep bytes n e, owned bytes reason.Depth n tt e), is_first bytes reason.Depth n e)
+      (unexplained bytes n e, is_first bytes reason.Namespace n e)
+  refused_for reason.Depth n e = (too_deep bytes n e, is_first bytes reason.Depth n e)
   refused_for reason.Size n e = (too_large bytes n e, is_first bytes reason.Size n e)
   refused_for reason.Attributes n e =
-      ((one_too_many bytes n e, owned bytes reason.Attributes n tt e), is_first bytes reason.Attributes n e)
+      (one_too_many bytes n e, is_first bytes reason.Attributes n e)
 
-  answered : (x : Result Tree XmlFault) → xml_answer bytes ≡ x → IsAnswerTo bytes x
+  answered : (x : Result Tree XmlFault) → xml_answer bytes ≡ x → IsAnswerOf bytes x
   answered (Ok tree) e = sound bytes tree e
   answered (Err fault.Memory) e = absurd (memory_never (run (Going start 0) bytes) e)
   answered (Err (fault.At r n)) e = refused_for r n e
 
   -- what a refusal says, whatever its reason
   abbrev Said : Reason → ℕ → Type 0
-  Said r n = ((r ≡ reason.Truncated) × EndsEarly bytes × (n ≡ length bytes)) ⊎ (IsCauseHere bytes r n × IsFirst bytes r n)
+  Said r n = ((r ≡ reason.Truncated) × IsTruncated bytes × (n ≡ length bytes)) ⊎ (IsCause bytes r n × IsLeast bytes r n)
 
-  said : (r : Reason) (n : ℕ) → IsRefusedFor bytes r n → Said r n
+  said : (r : Reason) (n : ℕ) → IsRefused bytes r n → Said r n
   said reason.Truncated n x = inl (refl, x.0, x.1)
   said reason.NotUtf8 n x = inr (x.0, x.1)
   said reason.Syntax n x = inr (x.0, x.1)
@@ -291,7 +292,7 @@ module _ (bytes : List ℕ) where
   same_fault r q n m e f = ap (λ x. Err (fault.At x n)) e ∙ ap (λ x. Err (fault.At q x)) f
 
   -- bytes of which this is said are answered so
-  early_told : (n : ℕ) → EndsEarly bytes → n ≡ length bytes → (x : Result Tree XmlFault) → xml_answer bytes ≡ x
+  early_told : (n : ℕ) → IsTruncated bytes → n ≡ length bytes → (x : Result Tree XmlFault) → xml_answer bytes ≡ x
       → x ≡ Err (fault.At reason.Truncated n)
   early_told n t l (Ok tree) e = absurd (t.1 tree (sound bytes tree e))
   early_told n t l (Err fault.Memory) e = absurd (memory_never (run (Going start 0) bytes) e)
@@ -307,7 +308,7 @@ module _ (bytes : List ℕ) where
   one_place n m x y (inr a) (inl b) = absurd (omega (arith, a.0, b))
   one_place n m x y (inr a) (inr b) = (a.0, omega (arith, a.1, b.1))
 
-  cause_answered : (r : Reason) (n : ℕ) → IsCauseHere bytes r n → IsFirst bytes r n → xml_answer bytes ≡ Err (fault.At r n)
+  pub cause_answered : (r : Reason) (n : ℕ) → IsCause bytes r n → IsLeast bytes r n → xml_answer bytes ≡ Err (fault.At r n)
   cause_answered r n c f = by (cause_told bytes r n c)
     where
       by_said : (q : Reason) (m : ℕ) → xml_answer bytes ≡ Err (fault.At q m) → NoLater q m r n → Said q m
@@ -319,7 +320,7 @@ module _ (bytes : List ℕ) where
       by : IsToldBy bytes r n → xml_answer bytes ≡ Err (fault.At r n)
       by x = by_said x.0 x.1 x.2 x.3 (said x.0 x.1 (refused_for x.0 x.1 x.2))
 
-  only_answer : (a : Result Tree XmlFault) → IsAnswerTo bytes a → xml_answer bytes ≡ a
+  pub only_answer : (a : Result Tree XmlFault) → IsAnswerOf bytes a → xml_answer bytes ≡ a
   only_answer (Ok tree) x = complete bytes tree x
   only_answer (Err fault.Memory) x = absurd x
   only_answer (Err (fault.At r n)) x = by (said r n x)
@@ -328,8 +329,33 @@ module _ (bytes : List ℕ) where
       by (inl y) = early_told n y.1 y.2 (xml_answer bytes) refl ∙ same_fault reason.Truncated r n n (sym y.0) refl
       by (inr y) = cause_answered r n y.0 y.1
 
-pub holds : (bytes : List ℕ) → IsAnswerTo bytes (xml_answer bytes)
+pub holds : (bytes : List ℕ) → IsAnswerOf bytes (xml_answer bytes)
 holds bytes = answered bytes (xml_answer bytes) refl
 
-pub is_one : (bytes : List ℕ) (a b : Result Tree XmlFault) → IsAnswerTo bytes a → IsAnswerTo bytes b → a ≡ b
+pub is_one : (bytes : List ℕ) (a b : Result Tree XmlFault) → IsAnswerOf bytes a → IsAnswerOf bytes b → a ≡ b
 is_one bytes a b x y = sym (only_answer bytes a x) ∙ only_answer bytes b y
+
+-- what the machine stops at is the first cause
+pub stopped : (bytes : List ℕ) (r : Reason) (n : ℕ) → run (Going start 0) bytes ≡ Refused r n → IsCause bytes r n × IsLeast bytes r n
+stopped bytes r n e = (has_cause bytes r n (ap answer_of e) other, is_first bytes r n (ap answer_of e))
+  where
+    clash : IsTaken bytes → ⊥
+    clash k = refused_going r n k.1 k.0 (sym e ∙ k.2)
+
+    other : r ≡ reason.Truncated → ⊥
+    other t = clash (early_taken bytes n (ap answer_of e ∙ ap (λ x. Err (fault.At x n)) t))
+
+no_early_cause : (bytes : List ℕ) (r : Reason) (n : ℕ) → IsCause bytes r n → r ≡ reason.Truncated → ⊥
+no_early_cause bytes r n c e = subst (λ x. IsCause bytes x n) e c
+
+-- the first cause stays the first whatever follows
+pub stays_first : (front more : List ℕ) (r : Reason) (n : ℕ) → IsCause front r n → IsLeast front r n
+    → IsCause (front ++ more) r n × IsLeast (front ++ more) r n
+stays_first front more r n c l = (has_cause (front ++ more) r n still other, is_first (front ++ more) r n still)
+  where
+    other : r ≡ reason.Truncated → ⊥
+    other = no_early_cause front r n c
+
+    still : xml_answer (front ++ more) ≡ Err (fault.At r n)
+    still = ap answer_of (run_append (Going start 0) front more)
+        ∙ stays (run (Going start 0) front) more r n (cause_answered front r n c l) other

@@ -5,6 +5,7 @@ use Rattle.std.specs.Prelude.{Contains}
 use Rattle.ba_xml_places.proofs.Alive.{IsOfTags, kept_of, no_octets, refused_by, begun, refused_state}
 use Rattle.ba_xml_places.proofs.Exact.{IsWhy, why, reached_before}
 use Rattle.ba_xml_places.proofs.Exact as exact
+use Rattle.ba_xml_places.proofs.Least.{owned}
 use Rattle.ba_xml_places.proofs.Standings.{IsCauseAt}
 use Rattle.ba_xml_places.proofs.Stops.{goes_on, stops, halts, over, IsFoundAt, document_or}
 use Rattle.ba_xml_places.proofs.Stops as found
@@ -14,7 +15,7 @@ use Rattle.ba_xml_reader.proofs.SoundBack.{back}
 use Rattle.ba_xml_reader.proofs.SoundDocuments.{top}
 use Rattle.ba_xml_grammar.specs.Grammar.{Document, written_document, written_tag}
 use Rattle.ba_xml_grammar.specs.GrammarTexts.{lines, IsWrittenAs, IsWellFormed}
-use Rattle.ba_xml_grammar.specs.Places.{Standing, document_standings, IsCause}
+use Rattle.ba_xml_grammar.specs.Places.{Standing, document_standings, EndsLine, IsCause}
 use Rattle.ba_xml_reader.specs.Machine.{start, run, state_after, xml_answer}
 use Rattle.ba_xml_words.specs.declared.faults.Reason.{Reason}
 use Rattle.ba_xml_words.specs.declared.faults.Reason.TheVariants as reason
@@ -90,21 +91,26 @@ module _ (bytes : List ℕ) (n : ℕ) where
       → lines false (take n bytes) ++ ys ≡ written_document d
   left_at d xs ys e l = ap (λ x. lines false (take n bytes) ++ x) (sym e) ∙ l
 
-  namespace_cause : (b : ℕ) → IsPlaced reason.Namespace b → IsCause bytes reason.Namespace n
-  namespace_cause b q = let l = q.0 in let e = q.1 in let x =
-      q.2 in (x.1, (l, x.0, whole_front b x.0 x.1 e x.2), x.3, x.4, (x.6.0, left_at x.1 x.5 x.3.closing x.6.1 x.7))
+  namespace_cause : (b : ℕ) → (EndsLine bytes n → ⊥) → IsPlaced reason.Namespace b → IsCause bytes reason.Namespace n
+  namespace_cause b own q = let l = q.0 in let e = q.1 in let x = q.2 in
+      (x.1, (l, x.0, whole_front b x.0 x.1 e x.2), x.3, x.4, (x.6.0, (left_at x.1 x.5 x.3.closing x.6.1 x.7, own)))
 
-  depth_cause : (b : ℕ) → IsPlaced reason.Depth b → IsCause bytes reason.Depth n
-  depth_cause b q = let l = q.0 in let e = q.1 in let x = q.2 in
-      (x.1, (l, x.0, whole_front b x.0 x.1 e x.2), x.3, x.4, (x.6.0, left_at x.1 x.5 (written_tag x.3.start x.3.closing) x.6.1 x.7))
-
-  attributes_cause : (b : ℕ) → IsPlaced reason.Attributes b → IsCause bytes reason.Attributes n
-  attributes_cause b q = let l = q.0 in let e = q.1 in let x = q.2 in (
+  depth_cause : (b : ℕ) → (EndsLine bytes n → ⊥) → IsPlaced reason.Depth b → IsCause bytes reason.Depth n
+  depth_cause b own q = let l = q.0 in let e = q.1 in let x = q.2 in (
     x.1,
     (l, x.0, whole_front b x.0 x.1 e x.2),
     x.3,
     x.4,
-    (x.6.0, x.6.1, x.6.2, x.6.3, x.6.4, left_at x.1 x.5 _ x.6.5 x.7),
+    (x.6.0, (left_at x.1 x.5 (written_tag x.3.start x.3.closing) x.6.1 x.7, own)),
+  )
+
+  attributes_cause : (b : ℕ) → (EndsLine bytes n → ⊥) → IsPlaced reason.Attributes b → IsCause bytes reason.Attributes n
+  attributes_cause b own q = let l = q.0 in let e = q.1 in let x = q.2 in (
+    x.1,
+    (l, x.0, whole_front b x.0 x.1 e x.2),
+    x.3,
+    x.4,
+    (x.6.0, x.6.1, x.6.2, x.6.3, x.6.4, (left_at x.1 x.5 _ x.6.5 x.7, own)),
   )
 
 placed : (bytes : List ℕ) (r : Reason) (n : ℕ) → IsOfTags r → xml_answer bytes ≡ Err (fault.At r n) → (b : ℕ) × IsPlaced bytes n r b
@@ -113,10 +119,13 @@ placed bytes r n w e =
     (i.3, (i.0, i.4, tag_cause (take n bytes) i.1 n i.3 r w i.2 (why i.1 i.3 n r (kept_of r w) i.5)))
 
 pub unexplained : (bytes : List ℕ) (n : ℕ) → xml_answer bytes ≡ Err (fault.At reason.Namespace n) → IsCause bytes reason.Namespace n
-unexplained bytes n e = let x = placed bytes reason.Namespace n tt e in namespace_cause bytes n x.0 x.1
+unexplained bytes n e =
+    let x = placed bytes reason.Namespace n tt e in namespace_cause bytes n x.0 (owned bytes reason.Namespace n tt e) x.1
 
 pub too_deep : (bytes : List ℕ) (n : ℕ) → xml_answer bytes ≡ Err (fault.At reason.Depth n) → IsCause bytes reason.Depth n
-too_deep bytes n e = let x = placed bytes reason.Depth n tt e in depth_cause bytes n x.0 x.1
+too_deep bytes n e =
+    let x = placed bytes reason.Depth n tt e in depth_cause bytes n x.0 (owned bytes reason.Depth n tt e) x.1
 
 pub one_too_many : (bytes : List ℕ) (n : ℕ) → xml_answer bytes ≡ Err (fault.At reason.Attributes n) → IsCause bytes reason.Attributes n
-one_too_many bytes n e = let x = placed bytes reason.Attributes n tt e in attributes_cause bytes n x.0 x.1
+one_too_many bytes n e =
+    let x = placed bytes reason.Attributes n tt e in attributes_cause bytes n x.0 (owned bytes reason.Attributes n tt e) x.1

@@ -60,7 +60,7 @@ first_dead bytes r n t m d = by (told bytes r n (run (Going start 0) bytes) refl
 pub early_alive : (bytes : List ℕ) (n : ℕ) → xml_answer bytes ≡ Err (fault.At reason.Truncated n) → (m : ℕ) → IsDead bytes m → ⊥
 early_alive bytes n t m d = none_dead bytes m (early_taken bytes n t) d
 
-text_taken : (bytes : List ℕ) (tree : Tree) (x : Reading) → run (Going start 0) bytes ≡ x → answer_of x ≡ Ok tree → IsTaken bytes
+pub text_taken : (bytes : List ℕ) (tree : Tree) (x : Reading) → run (Going start 0) bytes ≡ x → answer_of x ≡ Ok tree → IsTaken bytes
 text_taken bytes tree (Refused r n) e t = absurd (clash t)
   where
     clash : answer_of (Refused r n) ≡ Ok tree → ⊥

@@ -11,7 +11,6 @@ use Rattle.ba_xml_places.proofs.Stops.{stops, over, stops_by_then, stop_short, f
 use Rattle.ba_xml_places.proofs.Stops as found
 use Rattle.ba_xml_places.proofs.Utf8.{IsOfOctets, of_octets}
 use Rattle.ba_xml_places.proofs.Viable.{IsGoing, going}
-use Rattle.ba_xml_places.specs.Answers.{EndsLine}
 use Rattle.ba_xml_reader.proofs.Complete.{legal_octets}
 use Rattle.ba_xml_reader.proofs.CompleteCharacters.{octets, octets_append}
 use Rattle.ba_xml_reader.proofs.CompleteLayers.{run_none, run_one, scanned}
@@ -21,7 +20,7 @@ use Rattle.ba_xml_reader.proofs.SoundBack.{back}
 use Rattle.ba_xml_reader.proofs.SoundDocuments.{top}
 use Rattle.ba_xml_grammar.specs.Grammar.{Document, written_document, IsDocument}
 use Rattle.ba_xml_grammar.specs.GrammarTexts.{lines, IsOfCharacters, IsWrittenAs}
-use Rattle.ba_xml_grammar.specs.Places.{Standing, document_standings, number_of}
+use Rattle.ba_xml_grammar.specs.Places.{Standing, document_standings, EndsLine, number_of}
 use Rattle.ba_xml_reader.specs.Machine.{start, run, state_after, line_end, unless_returned, turned, turned_by, turned_from, counted}
 use Rattle.ba_xml_reader.specs.Machine.{reason_at, reason_past, xml_answer}
 use Rattle.ba_xml_words.specs.inside.Octets.{octet_after}

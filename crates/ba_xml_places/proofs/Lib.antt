@@ -3,6 +3,7 @@ pub mod Answering
 pub mod Causes
 pub mod Closings
 pub mod ContentBack
+pub mod Cuts
 pub mod Earlier
 pub mod Elements
 pub mod Ends

@@ -21,14 +21,16 @@ has_cause bytes reason.Depth n e o = too_deep bytes n e
 has_cause bytes reason.Size n e o = too_large bytes n e
 has_cause bytes reason.Attributes n e o = one_too_many bytes n e
 
-pub lives_on : (bytes : List ℕ) (r : Reason) (n : ℕ) → xml_answer bytes ≡ Err (fault.At r n) → IsOfLimits r → CanContinue (take (n + 1) bytes)
+pub lives_on : (bytes : List ℕ) (r : Reason) (n : ℕ) → xml_answer bytes ≡ Err (fault.At r n) → IsOfLimits r
+    → CanContinue (take (n + 1) bytes)
 lives_on bytes reason.Namespace n e l = alive bytes reason.Namespace n tt e
 lives_on bytes reason.Depth n e l = alive bytes reason.Depth n tt e
 lives_on bytes reason.Attributes n e l = alive bytes reason.Attributes n tt e
 lives_on bytes reason.Size n e l = large_alive bytes n e
 lives_on bytes _ n e l = absurd l
 
-pub dies_later : (bytes : List ℕ) (r : Reason) (n : ℕ) → xml_answer bytes ≡ Err (fault.At r n) → IsOfLimits r → (m : ℕ) → IsDead bytes m → n < m
+pub dies_later : (bytes : List ℕ) (r : Reason) (n : ℕ) → xml_answer bytes ≡ Err (fault.At r n) → IsOfLimits r
+    → (m : ℕ) → IsDead bytes m → n < m
 dies_later bytes reason.Namespace n e l = before_dead bytes reason.Namespace n tt e
 dies_later bytes reason.Depth n e l = before_dead bytes reason.Depth n tt e
 dies_later bytes reason.Attributes n e l = before_dead bytes reason.Attributes n tt e

@@ -1,9 +1,9 @@
 //! What holds of the places at which bytes are refused, as laws over all bytes.
 ghost use Rattle.std.specs.Prelude.{◌≡◌, ◌≢◌, ◌≤◌, ◌<◌, ◌+◌, ◌∷◌, ◌++◌, ℕ, List, take, codes, Result, Ok, Err};
 ghost use Rattle.ba_tree.specs.declared.trees.Tree.{Tree};
-ghost use Rattle.ba_xml_grammar.specs.GrammarTexts.{CanContinue};
-ghost use Rattle.ba_xml_grammar.specs.Places.{IsCause, IsDead, IsAnswerOf};
-ghost use Rattle.ba_xml_places.specs.Answers.{IsAnswerTo};
+ghost use Rattle.ba_xml_grammar.specs.GrammarTexts.{IsXmlText, CanContinue};
+ghost use Rattle.ba_xml_grammar.specs.Places.{IsCause, IsDead, IsLeast, IsAnswerOf};
+ghost use Rattle.ba_xml_places.specs.Cuts.{IsTextOrBeginning};
 ghost use Rattle.ba_xml_places.specs.Limits.{IsOfLimits};
 ghost use Rattle.ba_xml_places.specs.Taken.{IsTaken};
 ghost use Rattle.ba_xml_reader.specs.Machine.{xml_answer};
@@ -49,19 +49,34 @@ pub fn limits_come_before_dead_places()
         → IsOfLimits reason → (dead : ℕ) → IsDead bytes dead → place < dead }
 {}
 
-/// The answer to any bytes is that of the table: the tree of which they are a text; or of all causes the one at the least
+/// The machine's answer to any bytes is that of the table: the tree of which they are a text; or of all causes the one at the least
 /// place, and there the one with the lowest number; or, where nothing is a cause and they are no text, that they end too
-/// early. The table has one answer to any bytes.
+/// early.
 pub fn answers_are_those_of_the_table()
-    ensures answer { (bytes : List ℕ) → IsAnswerTo bytes (xml_answer bytes) }
-    ensures one { (bytes : List ℕ) (answer other : Result Tree XmlFault) → IsAnswerTo bytes answer → IsAnswerTo bytes other
+    ensures { (bytes : List ℕ) → IsAnswerOf bytes (xml_answer bytes) }
+{}
+
+/// Any bytes have one answer by the table.
+pub fn there_is_one_answer()
+    ensures some { (bytes : List ℕ) → (answer : Result Tree XmlFault) × IsAnswerOf bytes answer }
+    ensures one { (bytes : List ℕ) (answer other : Result Tree XmlFault) → IsAnswerOf bytes answer → IsAnswerOf bytes other
         → answer ≡ other }
 {}
 
-/// Where the end of a start tag, or a name in it, follows a line end of two bytes, the causes that count from bytes of the
-/// text find the tag at the line feed too, as here. The answer is the byte's own place, and so not the least of those.
-pub fn a_line_feed_is_no_place_of_a_tag()
-    ensures cause { IsCause (codes "<p:a" ++ 13 ∷ 10 ∷ codes "/>") Reason.Namespace 5 }
-    ensures answer { xml_answer (codes "<p:a" ++ 13 ∷ 10 ∷ codes "/>") ≡ Err (fault.At Reason.Namespace 6) }
-    ensures none { IsAnswerOf (codes "<p:a" ++ 13 ∷ 10 ∷ codes "/>") (xml_answer (codes "<p:a" ++ 13 ∷ 10 ∷ codes "/>")) → ⊥ }
+/// The first cause of bytes stays the first whatever follows them.
+pub fn the_first_cause_stays()
+    ensures { (front more : List ℕ) (reason : Reason) (place : ℕ) → IsCause front reason place → IsLeast front reason place
+        → IsCause (front ++ more) reason place × IsLeast (front ++ more) reason place }
+{}
+
+/// The first bytes of a text, however many, are a text themselves, or end too early for one.
+pub fn a_cut_text_ends_too_early()
+    ensures { (bytes : List ℕ) (tree : Tree) (count : ℕ) → IsXmlText bytes tree → IsTextOrBeginning (take count bytes) }
+{}
+
+/// Where a line end of two bytes comes before the end of a start tag, that end is a cause at its own byte, and not at the
+/// line feed, as in this text.
+pub fn a_tag_is_refused_at_its_own_byte()
+    ensures answer { IsAnswerOf (codes "<p:a" ++ 13 ∷ 10 ∷ codes "/>") (Err (fault.At Reason.Namespace 6)) }
+    ensures line_feed { IsCause (codes "<p:a" ++ 13 ∷ 10 ∷ codes "/>") Reason.Namespace 5 → ⊥ }
 {}

@@ -5,7 +5,8 @@
 mod laws;
 
 pub use laws::{
-    a_line_feed_is_no_place_of_a_tag, answers_are_those_of_the_table, every_place_is_of_the_table,
-    limits_come_before_dead_places, no_dead_place_is_passed, what_ends_too_early_can_be_continued,
+    a_cut_text_ends_too_early, a_tag_is_refused_at_its_own_byte, answers_are_those_of_the_table,
+    every_place_is_of_the_table, limits_come_before_dead_places, no_dead_place_is_passed,
+    the_first_cause_stays, there_is_one_answer, what_ends_too_early_can_be_continued,
     what_is_taken_can_be_continued,
 };
