@@ -36,7 +36,7 @@ use Rattle.ba_steps.specs.declared.inputs.Input.TheVariants as input
 use Rattle.ba_steps.proofs.Cases.{found_cases}
 use Rattle.ba_steps.proofs.Hyphens.{coordinators_apart, sides_apart}
 use Rattle.ba_steps.proofs.Places.{EndStands, end_found, place_cases}
-use Rattle.ba_steps.proofs.ScopeCases.{neither_left, neither_right}
+use Rattle.ba_scope.proofs.ScopeCases.{neither_left, neither_right}
 use Rattle.ba_runs.specs.Links.{HasEnd, IsLink, link_in}
 use Rattle.ba_runs.specs.Safety.{IsSound, MailFits, of_end, of_part, of_register}
 use Rattle.ba_runs.specs.World.{Net, PartAt, coordinator_at, letter, node_at, participant_at}

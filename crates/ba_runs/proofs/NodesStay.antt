@@ -25,7 +25,7 @@ use Rattle.ba_steps.proofs.NodeKept.{id_kept}
 use Rattle.ba_steps.proofs.Objects.{one_scope}
 use Rattle.ba_steps.proofs.Own.{choose_own, complete_own, decide_own, expire_own, finish_own, leave_own, tick_up_own}
 use Rattle.ba_steps.proofs.Places.{EndStands, Stands, scope_found}
-use Rattle.ba_steps.proofs.ScopeCases.{choose_cases, complete_cases, decide_cases, finish_cases, leave_cases}
+use Rattle.ba_scope.proofs.ScopeCases.{choose_cases, complete_cases, decide_cases, finish_cases, leave_cases}
 
 -- one of these scopes has the identifier and the kind of this one
 abbrev pub HasLike : List ScopeState → ScopeState → Type 0

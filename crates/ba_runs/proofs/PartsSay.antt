@@ -41,7 +41,7 @@ use Rattle.ba_steps.specs.Steps.{NodeStep, is_registering_state, node_step, same
 use Rattle.ba_steps.specs.Ticks.{TickStep, end_letter, letter_step, notice_letter, part_letter, register_letter, tick_at_end, tick_at_part, tick_at_scope, tick_lone, tick_step, tick_upward}
 use Rattle.ba_steps.proofs.Cases.{act_cases, ask_cases, create_cases, end_notice_cases, enrolled_cases, found_cases, join_cases, on_choose_cases, on_complete_cases, on_decide_cases, on_finish_cases, on_leave_cases, part_notice_cases, refused_cases, register_cases, tick_cases, up_acts, up_talks}
 use Rattle.ba_steps.proofs.Places.{Stands, place_cases, scope_found, stands_part}
-use Rattle.ba_steps.proofs.ScopeCases.{choose_cases, complete_cases, decide_cases, finish_cases, leave_cases, neither_left, neither_right}
+use Rattle.ba_scope.proofs.ScopeCases.{choose_cases, complete_cases, decide_cases, finish_cases, leave_cases, neither_left, neither_right}
 use Rattle.ba_runs.specs.Records.{IsActed, by_act, by_tick, outcome_of}
 use Rattle.ba_runs.proofs.Goes.{from_append, from_map, some_same}
 use Rattle.ba_runs.proofs.Tests.{test_cases}

@@ -32,7 +32,7 @@ use Rattle.ba_steps.proofs.Cases.{act_cases, ask_cases, create_cases, end_notice
 use Rattle.ba_steps.proofs.Members.{same_id_is}
 use Rattle.ba_steps.proofs.Objects.{one_end, one_scope}
 use Rattle.ba_steps.proofs.Places.{EndStands, Stands, first_is, scope_found}
-use Rattle.ba_steps.proofs.ScopeCases.{choose_cases, complete_cases, decide_cases, finish_cases, leave_cases}
+use Rattle.ba_scope.proofs.ScopeCases.{choose_cases, complete_cases, decide_cases, finish_cases, leave_cases}
 use Rattle.ba_runs.proofs.Goes.{from_append, from_map}
 
 -- ---- an end before and after

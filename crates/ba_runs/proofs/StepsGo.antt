@@ -34,7 +34,7 @@ use Rattle.ba_steps.specs.Ticks.{TickStep, tick_step}
 use Rattle.ba_steps.proofs.Cases.{act_cases, ask_cases, create_cases, end_notice_cases, enrolled_cases, join_cases, on_choose_cases, on_complete_cases, on_decide_cases, on_finish_cases, on_leave_cases, part_notice_cases, refused_cases, register_cases, tick_cases}
 use Rattle.ba_steps.proofs.Objects.{lone_fits, scope_fits}
 use Rattle.ba_steps.proofs.Places.{EndStands, scope_found, stands_is, stands_part}
-use Rattle.ba_steps.proofs.ScopeCases.{choose_cases, complete_cases, decide_cases, finish_cases, leave_cases}
+use Rattle.ba_scope.proofs.ScopeCases.{choose_cases, complete_cases, decide_cases, finish_cases, leave_cases}
 use Rattle.ba_runs.proofs.Goes.{NodeGoes, SameEnd, SamePart, ScopeGoes, ends_map, ends_push, ends_stay, itself, lone_goes, new_part_goes, new_scope_goes, part_goes, same_end, same_part, scope_goes, scope_stays, some_same, up_changes, up_stays}
 
 -- ---- changed ends

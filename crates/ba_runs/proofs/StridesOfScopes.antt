@@ -41,7 +41,7 @@ use Rattle.ba_steps.specs.declared.inputs.Input.TheVariants as input
 use Rattle.ba_steps.specs.Node.{Among}
 use Rattle.ba_steps.proofs.Members.{all_among, same_id_is}
 use Rattle.ba_steps.proofs.Places.{first_is}
-use Rattle.ba_steps.proofs.ScopeCases.{choose_cases, complete_cases, decide_cases, finish_cases, leave_cases}
+use Rattle.ba_scope.proofs.ScopeCases.{choose_cases, complete_cases, decide_cases, finish_cases, leave_cases}
 use Rattle.ba_runs.specs.Links.{side_of}
 use Rattle.ba_runs.proofs.LinkMoves.{KeepsOwner, Quiet, link_with, sealed_above, stays_quiet, takes_no_less}
 use Rattle.ba_runs.proofs.Strides.{Above, Below, EndHears, IsOfItsProtocol, Speech, Strides, UpStrides, silent, stays, up_strides_change, up_strides_stay}

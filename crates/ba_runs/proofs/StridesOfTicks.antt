@@ -36,7 +36,7 @@ use Rattle.ba_steps.proofs.Cases.{SentOnly, end_ticks, nothing, of_end, of_lone,
 use Rattle.ba_steps.proofs.Members.{number_is_same, same_id_is}
 use Rattle.ba_steps.proofs.Objects.{one_end, scope_fits}
 use Rattle.ba_steps.proofs.Places.{UpStands, scope_found}
-use Rattle.ba_steps.proofs.ScopeCases.{neither_left, neither_right}
+use Rattle.ba_scope.proofs.ScopeCases.{neither_left, neither_right}
 use Rattle.ba_runs.specs.Links.{link_state}
 use Rattle.ba_runs.proofs.Goes.{some_same}
 use Rattle.ba_runs.proofs.LinkMoves.{KeepsOwner, takes_no_less}

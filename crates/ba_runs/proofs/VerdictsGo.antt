@@ -43,7 +43,7 @@ use Rattle.ba_steps.proofs.Cases.{act_cases, ask_cases, create_cases, end_notice
 use Rattle.ba_steps.proofs.Members.{all_among, among_left, among_map, same_id_is}
 use Rattle.ba_steps.proofs.Objects.{one_end, one_scope, scope_fits}
 use Rattle.ba_steps.proofs.Places.{EndStands, Stands, first_is, scope_found}
-use Rattle.ba_steps.proofs.ScopeCases.{choose_cases, complete_cases, decide_cases, finish_cases, leave_cases}
+use Rattle.ba_scope.proofs.ScopeCases.{choose_cases, complete_cases, decide_cases, finish_cases, leave_cases}
 use Rattle.ba_runs.specs.Words.{word_told}
 use Rattle.ba_runs.proofs.EndLemmas.{atomic_verdict}
 use Rattle.ba_runs.proofs.Goes.{from_append, from_map, some_same}

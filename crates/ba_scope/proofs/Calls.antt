@@ -1,5 +1,5 @@
 -- Each call of a scope keeps it fit, whatever it answers.
-use Rattle.std.proofs.Common.{◌≡◌, ℕ, ◌≤◌, Bool, true, false, not, ◌&&◌, ◌||◌, List, [], ◌∷◌, ◌++◌, length, map, nat_le, Option, None, Some, Result, Ok, Err, IfSome, OnOk, OnErr, unwrap_or, is_none, is_some, refl, sym, ap, ◌∙◌, subst, if◌then◌else◌, true≢false, arith, length-append, lit≤}
+use Rattle.std.proofs.Common.{◌≡◌, ℕ, ◌≤◌, Bool, true, false, not, ◌&&◌, ◌||◌, List, [], ◌∷◌, ◌++◌, length, map, nat_le, Option, None, Some, unwrap_or, is_none, is_some, refl, sym, ap, ◌∙◌, subst, if◌then◌else◌, true≢false, arith, length-append, lit≤}
 use Rattle.std.specs.List.{AllByRecursion, find, list_all, list_any}
 use Rattle.std.specs.Option.{option_map}
 use Rattle.std.proofs.lemmas.Bool.{and_parts, and_from}
@@ -32,7 +32,6 @@ use Rattle.ba_link.specs.States.{part_among}
 use Rattle.ba_link.proofs.Everywhere.{only_if, where_asked, protocols, protocol_passes, parts, part_passes, verdict_passes}
 use Rattle.ba_message.specs.Endpoints.{same_epr}
 use Rattle.ba_message.specs.declared.endpoints.Epr.{Epr}
-use Rattle.ba_scope.specs.declared.answers.EnrolFault.{EnrolFault}
 use Rattle.ba_scope.specs.declared.answers.EnrolFault.TheVariants.{NotYetEnrolled, Sealed, Full}
 use Rattle.ba_scope.specs.declared.answers.Said.{Said}
 use Rattle.ba_scope.specs.declared.answers.TheConstants.{ALREADY_DECIDED, NOT_READY, NOT_A_ROOT, WRONG_KIND, NO_SUCH_END, NOT_A_CHILD, NOT_DRAINED, WRONG_STATE}
@@ -368,18 +367,6 @@ enrol_fits s id protocol participant by_participant new_id enrols fits =
   where
     room_for_one : (limit : ℕ) (es : List End) (new : End) → nat_le limit (length es) ≡ false → length (es ++ new ∷ []) ≤ limit
     room_for_one limit es new h = rw (length-append es (new ∷ [])) (grind (arith, nat_tests))
-
-none_by : (o : Option EnrolFault) (x : Unit {0}) → IfSome o (λ why. ◌≡◌ {A = Result (Unit {0}) EnrolFault} (Ok x) (Err why)) → o ≡ None
-none_by None x h = refl
-none_by (Some why) x h = cc
-
--- what was answered tells whether there is a new end
-pub enrol_keeps : (s new : ScopeState) (id : Id) (protocol : Protocol) (participant : Epr) (r : Result (Unit {0}) EnrolFault)
-    → end_of s.ends participant ≡ None → not (has_id s id) ≡ true → OnOk r (new ≡ scope_with_end s id protocol participant)
-    → IfSome (enrol_refusal s) (λ why. r ≡ Err why) → OnErr r (new ≡ s) → ScopeFits s → ScopeFits new
-enrol_keeps s new id protocol participant (Ok x) by_participant by_id enrolled refused unchanged fits =
-    subst ScopeFits (sym enrolled) (enrol_fits s id protocol participant by_participant by_id (none_by (enrol_refusal s) x refused) fits)
-enrol_keeps s new id protocol participant (Err why) by_participant by_id enrolled refused unchanged fits = subst ScopeFits (sym unchanged) fits
 
 -- ---- the upward part's work is done, or it leaves
 

@@ -1,16 +1,14 @@
 -- What a call answers that changes the end at a place.
-use Rattle.std.proofs.Common.{◌≡◌, ℕ, Bool, true, false, not, ◌||◌, Option, Some, unwrap_or, is_some, slice_get, slice_set, refl, sym, ap, ◌∙◌, true≢false}
-use Rattle.ba_core.specs.EndRows.{chosen_state, completed_state, end_row}
+use Rattle.std.proofs.Common.{◌≡◌, ℕ, Bool, true, not, Option, Some, slice_get, slice_set, refl, sym, ◌∙◌}
+use Rattle.ba_core.specs.EndRows.{end_row}
 use Rattle.ba_core.specs.declared.identifiers.Id.{Id}
 use Rattle.ba_core.specs.declared.notices.Notice.{Notice}
-use Rattle.ba_core.specs.declared.protocols.Verdict.{Verdict}
 use Rattle.ba_core.specs.declared.rows.CRow.{CRow}
-use Rattle.ba_core.specs.declared.states.CState.{CState}
 use Rattle.ba_scope.specs.declared.ends.End.{End}
 use Rattle.ba_scope.specs.Fits.{are_apart}
-use Rattle.ba_scope.specs.Rules.{ask, choose, choose_for, complete, complete_for, done_step, end_after_notice, end_asking, end_in_state, end_owing, end_receive, end_with_verdict, is_atomic, owe, settled_row, tick_end, tick_of_end, with_end_changed}
+use Rattle.ba_scope.specs.Rules.{ask, end_after_notice, end_asking, end_owing, end_receive, owe, settled_row, tick_end, tick_of_end, with_end_changed}
 use Rattle.ba_scope.specs.Scope.{ScopeState, end_with_id}
-use Rattle.ba_scope.proofs.Lists.{false_branch, some_branch}
+use Rattle.ba_scope.proofs.Lists.{some_branch}
 use Rattle.ba_scope.proofs.Places.{changed_scope}
 
 -- the end at a place of a scope is the one with this Id
@@ -22,32 +20,10 @@ pub record StandsAt (s : ScopeState) (id : Id) (k : ℕ) (e : End) : Type 0 wher
 abbrev pub with_end_at : ScopeState → ℕ → End → ScopeState
 with_end_at s k e = record s { ends = slice_set s.ends k e }
 
-changed_there : (s : ScopeState) (id : Id) (k : ℕ) (e e2 : End) (change : End → End) → StandsAt s id k e → e2 ≡ change e
+pub changed_there : (s : ScopeState) (id : Id) (k : ℕ) (e e2 : End) (change : End → End) → StandsAt s id k e → e2 ≡ change e
     → with_end_changed id change s ≡ with_end_at s k e2
 changed_there s id k e e2 change is same =
     changed_scope s id change k e e2 (slice_set s.ends k e2) is.apart (is.found ∙ is.at) is.at same refl
-
-pub chosen_at : (s : ScopeState) (id : Id) (v : Verdict) (k : ℕ) (e : End) (next : CState) → StandsAt s id k e → is_some s.up ≡ false
-    → is_atomic s.kind ≡ false → is_some e.verdict ≡ false → chosen_state e.protocol e.state v ≡ Some next
-    → choose s id v ≡ done_step (with_end_at s k (record e { state = next; verdict = Some v }))
-chosen_at s id v k e next is root mixed undecided chosen =
-    let state : next ≡ unwrap_or (chosen_state e.protocol e.state v) e.state = sym (ap (λ (o : Option CState). unwrap_or o e.state) chosen) in
-    let same : record e { state = next; verdict = Some v } ≡ end_with_verdict v e = (λ i. record e { state = state i; verdict = Some v }) in
-    some_branch (end_with_id s.ends id) _ _ e (is.found ∙ is.at) ∙ false_branch (is_some s.up) _ _ root
-    ∙ false_branch (is_atomic s.kind) _ _ mixed ∙ false_branch (is_some e.verdict) _ _ undecided
-    ∙ ap (choose_for s id v) chosen ∙ ap done_step (changed_there s id k e (record e { state = next; verdict = Some v }) (end_with_verdict v) is same)
-
-pub completed_at : (s : ScopeState) (id : Id) (k : ℕ) (e e2 : End) (next : CState) → StandsAt s id k e → is_some s.verdict ≡ false
-    → is_some e.verdict ≡ false → completed_state e.protocol e.state ≡ Some next → e2 ≡ end_in_state next e
-    → complete s id ≡ done_step (with_end_at s k e2)
-completed_at s id k e e2 next is open_ undecided completed same =
-    some_branch (end_with_id s.ends id) _ _ e (is.found ∙ is.at)
-    ∙ false_branch (is_some s.verdict || is_some e.verdict) _ _ (neither (is_some s.verdict) (is_some e.verdict) open_ undecided)
-    ∙ ap (complete_for s id) completed ∙ ap done_step (changed_there s id k e e2 (end_in_state next) is same)
-  where
-    neither : (b c : Bool) → b ≡ false → c ≡ false → (b || c) ≡ false
-    neither true c h k = absurd (true≢false h)
-    neither false c h k = k
 
 pub received_at : (s : ScopeState) (id : Id) (n : Notice) (k : ℕ) (e e2 : End) (row : CRow) → StandsAt s id k e → e2 ≡ end_after_notice n e
     → row ≡ settled_row (end_row e.protocol e.state n) e

@@ -4,5 +4,7 @@ pub mod Kept
 pub mod Lists
 pub mod Owned
 pub mod Places
+pub mod ScopeCases
 pub mod Sealed
 pub mod Tables
+pub mod Tested

@@ -46,8 +46,6 @@ pub struct Drained {
 /// Why a participant isn't enrolled.
 #[derive(Clone, Copy, Debug, PartialEq, Eq, Error)]
 pub enum EnrolFault {
-    #[error("out of memory")]
-    Memory,
     /// The scope's own participant isn't enrolled above yet.
     #[error("the scope isn't enrolled itself yet")]
     NotYetEnrolled,

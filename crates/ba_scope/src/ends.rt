@@ -8,8 +8,9 @@ ghost use Rattle.ba_link.specs.Link.{settled_state};
 ghost use Rattle.ba_link.specs.States.{end_among};
 ghost use Rattle.ba_message.specs.Endpoints.{same_epr};
 ghost use Rattle.ba_scope.specs.Fits.{has_own_state};
-ghost use Rattle.ba_scope.specs.Rules.{end_after_notice, end_asking, end_in_state, end_owing, end_with_verdict, end_with_verdict_if_none, is_ready_for, settled_row, tick_of_end};
+ghost use Rattle.ba_scope.specs.Rules.{end_after_notice, end_asking, end_owing, end_with_verdict, end_with_verdict_if_none, is_ready_for, settled_row, tick_of_end};
 ghost use Rattle.ba_scope.specs.Scope.{end_of, end_with_id, first_failing, is_ended_state, is_ready_state, same_id};
+ghost use Rattle.ba_scope.specs.inside.Moves.{completing_end};
 
 use ba_core::{CRow, CState, How, Id, Notice, Protocol, Verdict, c_name};
 use ba_message::Epr;
@@ -49,7 +50,7 @@ pub(crate) fn is_ready_for_verdict(verdict: Verdict, state: CState) -> bool
 }
 
 /// Whether the state is Ended.
-pub(crate) fn is_ended(state: CState) -> bool
+pub fn is_ended(state: CState) -> bool
     ensures { result ≡ is_ended_state state }
 {
     matches!(state, CState::Ended(_))
@@ -75,11 +76,12 @@ impl End {
         }
     }
 
-    /// The end in another state.
-    pub(crate) fn set_state(&mut self, next: CState)
-        ensures { self.new ≡ end_in_state next self.old }
+    /// The end moves as its participant is asked to complete, where its state lets it.
+    pub(crate) fn complete(&mut self)
+        requires { IsTrue (has_own_state self.old) }
+        ensures { self.new ≡ completing_end self.old }
     {
-        self.state = next;
+        self.state = ba_tables::c_complete(self.protocol, self.state).unwrap_or(self.state);
     }
 
     /// It owes its Status from now on; true exactly where it didn't before.
@@ -102,21 +104,50 @@ impl End {
         first
     }
 
-    /// The end takes a notice: it moves by its row, and on by its verdict where it comes to Completed.
+    /// The row by which the end takes a notice. Where it leads to Completed, the end moves on by its verdict.
+    pub fn row(&self, notice: Notice) -> CRow
+        requires state { IsTrue (has_own_state self.now) }
+        requires notice { IsTrue (is_column notice) }
+        ensures { result ≡ settled_row (end_row self.now.protocol self.now.state notice) self.now }
+    {
+        match ba_tables::c_receive(self.protocol, self.state, notice) {
+            CRow::Invalid => CRow::Invalid,
+            CRow::Row { next, prompt } => CRow::Row {
+                next: settle(self.protocol, next, self.verdict),
+                prompt,
+            },
+        }
+    }
+
+    /// The end takes a notice.
     pub(crate) fn receive(&mut self, notice: Notice) -> CRow
         requires state { IsTrue (has_own_state self.old) }
         requires notice { IsTrue (is_column notice) }
         ensures end { self.new ≡ end_after_notice notice self.old }
         ensures row { result ≡ settled_row (end_row self.old.protocol self.old.state notice) self.old }
     {
-        match ba_tables::c_receive(self.protocol, self.state, notice) {
+        match self.row(notice) {
             CRow::Invalid => CRow::Invalid,
             CRow::Row { next, prompt } => {
-                let next = settle(self.protocol, next, self.verdict);
                 self.state = next;
                 CRow::Row { next, prompt }
             }
         }
+    }
+
+    /// The state of the end after a tick, and what it says then.
+    pub fn at_tick(&self) -> (CState, Option<Notice>)
+        requires { IsTrue (has_own_state self.now) }
+        ensures state { result.0 ≡ (tick_of_end self.now).after.state }
+        ensures says { result.1 ≡ (tick_of_end self.now).says }
+    {
+        if self.owes {
+            return (self.state, Some(Notice::Status(c_name(self.state))));
+        }
+        if self.asks {
+            return (self.state, Some(Notice::GetStatus));
+        }
+        ba_tables::c_tick(self.protocol, self.state)
     }
 
     /// The end says what it has to say now.
@@ -125,15 +156,15 @@ impl End {
         ensures end { self.new ≡ (tick_of_end self.old).after }
         ensures says { result ≡ (tick_of_end self.old).says }
     {
+        let (next, says) = self.at_tick();
         if self.owes {
             self.owes = false;
-            return Some(Notice::Status(c_name(self.state)));
+            return says;
         }
         if self.asks {
             self.asks = false;
-            return Some(Notice::GetStatus);
+            return says;
         }
-        let (next, says) = ba_tables::c_tick(self.protocol, self.state);
         self.state = next;
         says
     }

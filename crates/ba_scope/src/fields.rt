@@ -1,12 +1,13 @@
 //! The fields of a scope, as its calls change them.
-ghost use Rattle.std.specs.Prelude.{◌≡◌, ◌≢◌, ◌^◌, ◌<◌, [], IsTrue, IfErr, IfSome, OnOk, OnErr, None, Some, Ok, Err, is_some, not};
+ghost use Rattle.std.specs.Prelude.{◌≡◌, ◌^◌, ◌<◌, [], IsTrue, IfOk, IfSome, None, Some, is_some, length, not};
 ghost use Rattle.std.specs.List.{AllByRecursion};
 ghost use Rattle.std.specs.Option.{option_map};
 ghost use Rattle.ba_core.specs.Messages.{is_column};
 ghost use Rattle.ba_core.specs.PartRows.{is_part_state};
 ghost use Rattle.ba_scope.specs.Fits.{ScopeFits, has_own_state};
-ghost use Rattle.ba_scope.specs.Rules.{act_when_drained, ask, choose, complete, decide, drained_as, end_receive, enrol_refusal, enrolled_scope, expire, finish, is_atomic, leave_act, leave_by, may_leave, owe, refused_scope, scope_with_verdict, scope_with_verdict_if_any, state_after_act, state_after_row, tick_end, tick_up, up_receive, verdict_on_the_way, scope_with_end};
-ghost use Rattle.ba_scope.specs.Scope.{end_of, has_id, is_at_work, is_id_above, is_registering};
+ghost use Rattle.ba_scope.specs.Rules.{act_when_drained, ask, choose, complete, decide, drained_as, end_receive, enrol_refusal, enrolled_scope, expire, finish, is_atomic, leave_act, leave_by, may_leave, owe, refused_scope, scope_with_verdict, scope_with_verdict_if_any, state_after_act, state_after_row, tick_end, tick_up, up_receive, scope_with_end, end_with_verdict, state_at_tick, with_end_changed};
+ghost use Rattle.ba_scope.specs.Scope.{end_of, end_with_id, has_id, is_at_work, is_id_above, is_registering};
+ghost use Rattle.ba_scope.specs.inside.Moves.{completing_end, expired_scope, with_up_acted};
 
 use crate::answers::{
     ALREADY_DECIDED, Drained, EnrolFault, NO_SUCH_END, NOT_A_CHILD, NOT_A_ROOT, NOT_DRAINED,
@@ -16,11 +17,14 @@ use crate::ends::{
     End, any_failed_end, are_ended, end_of_participant, first_not_ended, first_not_ready,
     first_not_ready_for, has_end, place_of, set_verdicts, set_verdicts_if_none,
 };
-use crate::parts::Part;
-use ba_core::{Act, CRow, CState, How, Id, Kind, Leave, Notice, PRow, PState, Protocol, Verdict};
+use crate::parts::{Part, verdict_from_above};
+use crate::rooms::Room;
+use ba_core::{
+    Act, CRow, CState, Id, Kind, Leave, Memory, Notice, PRow, PState, Protocol, Verdict,
+};
 use ba_message::Epr;
-use std::alloc::Global;
 use std::marker::Model;
+use std::mem;
 
 /// The fields of a scope. They may not fit each other: `Scope` keeps that they do.
 #[derive(Debug, Drop)]
@@ -70,10 +74,11 @@ fn act_of_leave(how: Leave) -> Act
 }
 
 impl Fields {
-    /// Sets a verdict on a root and on each of its ends.
-    pub fn decide(&mut self, verdict: Verdict) -> Said
-        requires { ScopeFits self.old }
-        ensures { decide self.old verdict ≡ record { after = self.new; answer = result } }
+    // ---- verdicts
+
+    /// What `decide` answers.
+    pub fn decision(&self, verdict: Verdict) -> Said
+        ensures { result ≡ (decide self.now verdict).answer }
     {
         if self.up.is_some() {
             return Said::No(NOT_A_ROOT, self.id);
@@ -84,11 +89,24 @@ impl Fields {
         if self.verdict.is_some() {
             return Said::No(ALREADY_DECIDED, self.id);
         }
-        if let Some(end) = first_not_ready_for(&self.ends, verdict) {
-            return Said::No(NOT_READY, end);
+        match first_not_ready_for(&self.ends, verdict) {
+            Some(end) => Said::No(NOT_READY, end),
+            None => Said::Ok,
         }
-        self.set_verdict(verdict);
-        Said::Ok
+    }
+
+    /// Sets a verdict on a root and on each of its ends.
+    pub fn decide(&mut self, verdict: Verdict) -> Said
+        requires { ScopeFits self.old }
+        ensures { decide self.old verdict ≡ record { after = self.new; answer = result } }
+    {
+        match self.decision(verdict) {
+            Said::No(number, shown) => Said::No(number, shown),
+            Said::Ok => {
+                self.set_verdict(verdict);
+                Said::Ok
+            }
+        }
     }
 
     // Sets a verdict on the scope and on each of its ends.
@@ -100,15 +118,21 @@ impl Fields {
         self.verdict = Some(verdict);
     }
 
-    /// Sets a verdict on an end of a MixedOutcome root.
-    pub fn choose(&mut self, id: Id, verdict: Verdict) -> Said
-        requires { ScopeFits self.old }
-        ensures { choose self.old id verdict ≡ record { after = self.new; answer = result } }
+    /// The end with this Id.
+    pub fn end(&self, id: Id) -> Option<&End>
+        ensures { option_map (λ e. e.now) result ≡ end_with_id self.now.ends id }
     {
-        let Some(place) = place_of(&self.ends, id) else {
+        self.ends.iter().find(|end| end.id == id)
+    }
+
+    /// What `choose` answers.
+    pub fn choice(&self, id: Id, verdict: Verdict) -> Said
+        requires { ScopeFits self.now }
+        ensures { result ≡ (choose self.now id verdict).answer }
+    {
+        let Some(end) = self.end(id) else {
             return Said::No(NO_SUCH_END, id);
         };
-        let end = &self.ends[place];
         if self.up.is_some() {
             return Said::No(NOT_A_ROOT, id);
         }
@@ -118,13 +142,52 @@ impl Fields {
         if end.verdict.is_some() {
             return Said::No(ALREADY_DECIDED, id);
         }
-        let Some(next) = ba_tables::c_choose(end.protocol, end.state, verdict) else {
-            return Said::No(NOT_READY, id);
+        match ba_tables::c_choose(end.protocol, end.state, verdict) {
+            Some(_) => Said::Ok,
+            None => Said::No(NOT_READY, id),
+        }
+    }
+
+    /// Sets a verdict on an end of a MixedOutcome root.
+    pub fn choose(&mut self, id: Id, verdict: Verdict) -> Said
+        requires { ScopeFits self.old }
+        ensures { choose self.old id verdict ≡ record { after = self.new; answer = result } }
+    {
+        match self.choice(id, verdict) {
+            Said::No(number, shown) => Said::No(number, shown),
+            Said::Ok => {
+                self.set_verdict_at(id, verdict);
+                Said::Ok
+            }
+        }
+    }
+
+    // Sets a verdict on the end with this Id, where there is one.
+    fn set_verdict_at(&mut self, id: Id, verdict: Verdict)
+        requires { ScopeFits self.old }
+        ensures { self.new ≡ with_end_changed id (end_with_verdict verdict) self.old }
+    {
+        match place_of(&self.ends, id) {
+            None => {}
+            Some(place) => self.ends[place].set_verdict(verdict),
+        }
+    }
+
+    /// What `complete` answers.
+    pub fn completion(&self, id: Id) -> Said
+        requires { ScopeFits self.now }
+        ensures { result ≡ (complete self.now id).answer }
+    {
+        let Some(end) = self.end(id) else {
+            return Said::No(NO_SUCH_END, id);
         };
-        let end = &mut self.ends[place];
-        end.state = next;
-        end.verdict = Some(verdict);
-        Said::Ok
+        if self.verdict.is_some() || end.verdict.is_some() {
+            return Said::No(ALREADY_DECIDED, id);
+        }
+        match ba_tables::c_complete(end.protocol, end.state) {
+            Some(_) => Said::Ok,
+            None => Said::No(WRONG_STATE, id),
+        }
     }
 
     /// Asks an end's participant to complete.
@@ -132,18 +195,35 @@ impl Fields {
         requires { ScopeFits self.old }
         ensures { complete self.old id ≡ record { after = self.new; answer = result } }
     {
-        let Some(place) = place_of(&self.ends, id) else {
-            return Said::No(NO_SUCH_END, id);
-        };
-        let end = &self.ends[place];
-        if self.verdict.is_some() || end.verdict.is_some() {
-            return Said::No(ALREADY_DECIDED, id);
+        match self.completion(id) {
+            Said::No(number, shown) => Said::No(number, shown),
+            Said::Ok => {
+                self.complete_at(id);
+                Said::Ok
+            }
         }
-        let Some(next) = ba_tables::c_complete(end.protocol, end.state) else {
-            return Said::No(WRONG_STATE, id);
+    }
+
+    // The end with this Id, where there is one, moves as its participant is asked to complete.
+    fn complete_at(&mut self, id: Id)
+        requires { ScopeFits self.old }
+        ensures { self.new ≡ with_end_changed id completing_end self.old }
+    {
+        match place_of(&self.ends, id) {
+            None => {}
+            Some(place) => self.ends[place].complete(),
+        }
+    }
+
+    /// What `expire` answers.
+    pub fn expires(&self, now: u64) -> bool
+        ensures { result ≡ (expire self.now now).answer }
+    {
+        let is_past = match self.deadline {
+            None => false,
+            Some(deadline) => deadline <= now,
         };
-        self.ends[place].set_state(next);
-        Said::Ok
+        self.up.is_none() && self.verdict.is_none() && is_past
     }
 
     /// Sets the verdict Undo on a root without verdict whose deadline is past, and on each end without one.
@@ -151,17 +231,20 @@ impl Fields {
         requires { ScopeFits self.old }
         ensures { expire self.old now ≡ record { after = self.new; answer = result } }
     {
-        let is_past = match self.deadline {
-            None => false,
-            Some(deadline) => deadline <= now,
-        };
-        if self.up.is_none() && self.verdict.is_none() && is_past {
-            set_verdicts_if_none(&mut self.ends, Verdict::Undo);
-            self.verdict = Some(Verdict::Undo);
-            true
-        } else {
-            false
+        if self.expires(now) {
+            self.set_expired();
+            return true;
         }
+        false
+    }
+
+    // Sets Undo on the scope, and on each end without verdict.
+    fn set_expired(&mut self)
+        requires { AllByRecursion (λ e. IsTrue (has_own_state e)) self.old.ends }
+        ensures { self.new ≡ expired_scope self.old }
+    {
+        set_verdicts_if_none(&mut self.ends, Verdict::Undo);
+        self.verdict = Some(Verdict::Undo);
     }
 
     /// What the scope came to, once each of its ends is Ended.
@@ -191,22 +274,57 @@ impl Fields {
         end_of_participant(&self.ends, participant)
     }
 
+    // ---- the participant of a child, by itself
+
+    /// What `finish` answers.
+    pub fn finishing(&self) -> Said
+        requires { ScopeFits self.now }
+        ensures { result ≡ (finish self.now).answer }
+    {
+        let Some(up) = &self.up else {
+            return Said::No(NOT_A_CHILD, self.id);
+        };
+        if ba_tables::p_act(up.protocol, up.state, Act::Completed).is_none() {
+            return Said::No(WRONG_STATE, self.id);
+        }
+        match first_not_ready(&self.ends) {
+            Some(end) => Said::No(NOT_READY, end),
+            None => Said::Ok,
+        }
+    }
+
     /// The work of a child's own participant is done, where each end is ready.
     pub fn finish(&mut self) -> Said
         requires { ScopeFits self.old }
         ensures { finish self.old ≡ record { after = self.new; answer = result } }
     {
-        let Some(up) = &mut self.up else {
+        match self.finishing() {
+            Said::No(number, shown) => Said::No(number, shown),
+            Said::Ok => {
+                self.act(Act::Completed);
+                Said::Ok
+            }
+        }
+    }
+
+    /// What `leave` answers.
+    pub fn leaving(&self, how: Leave) -> Said
+        requires { ScopeFits self.now }
+        ensures { result ≡ (leave_by self.now how).answer }
+    {
+        let Some(up) = &self.up else {
             return Said::No(NOT_A_CHILD, self.id);
         };
-        let Some(next) = ba_tables::p_act(up.protocol, up.state, Act::Completed) else {
+        if !may_leave_at(up.state) {
             return Said::No(WRONG_STATE, self.id);
-        };
-        if let Some(end) = first_not_ready(&self.ends) {
-            return Said::No(NOT_READY, end);
         }
-        up.state = next;
-        Said::Ok
+        if ba_tables::p_act(up.protocol, up.state, act_of_leave(how)).is_none() {
+            return Said::No(WRONG_STATE, self.id);
+        }
+        match first_not_ended(&self.ends) {
+            Some(end) => Said::No(NOT_DRAINED, end),
+            None => Said::Ok,
+        }
     }
 
     /// A child leaves its activity before there is an outcome, where each of its ends is Ended.
@@ -214,21 +332,26 @@ impl Fields {
         requires { ScopeFits self.old }
         ensures { leave_by self.old how ≡ record { after = self.new; answer = result } }
     {
-        let Some(up) = &mut self.up else {
-            return Said::No(NOT_A_CHILD, self.id);
-        };
-        if !may_leave_at(up.state) {
-            return Said::No(WRONG_STATE, self.id);
+        match self.leaving(how) {
+            Said::No(number, shown) => Said::No(number, shown),
+            Said::Ok => {
+                self.act(act_of_leave(how));
+                Said::Ok
+            }
         }
-        let Some(next) = ba_tables::p_act(up.protocol, up.state, act_of_leave(how)) else {
-            return Said::No(WRONG_STATE, self.id);
-        };
-        if let Some(end) = first_not_ended(&self.ends) {
-            return Said::No(NOT_DRAINED, end);
-        }
-        up.state = next;
-        Said::Ok
     }
+
+    // The child's own participant acts, where its state lets it.
+    fn act(&mut self, act: Act)
+        requires { ScopeFits self.old }
+        ensures { self.new ≡ with_up_acted act self.old }
+    {
+        if let Some(up) = &mut self.up {
+            up.state = ba_tables::p_act(up.protocol, up.state, act).unwrap_or(up.state);
+        }
+    }
+
+    // ---- notices and ticks
 
     /// An end takes a participant's notice.
     pub fn end_receive(&mut self, id: Id, notice: Notice) -> CRow
@@ -283,6 +406,44 @@ impl Fields {
         }
     }
 
+    /// The state in which a child's own participant ticks: it acts once its scope is drained.
+    pub fn up_state_at_tick(&self) -> Option<PState>
+        requires { ScopeFits self.now }
+        ensures { result ≡ option_map (state_at_tick self.now) self.now.up }
+    {
+        match &self.up {
+            None => None,
+            Some(up) => Some(self.state_at_tick(up)),
+        }
+    }
+
+    // The state in which this participant would tick above it.
+    fn state_at_tick(&self, up: &Part) -> PState
+        requires { IsTrue (is_part_state up.now.protocol up.now.state) }
+        ensures { result ≡ state_at_tick self.now up.now }
+    {
+        match self.drained() {
+            None => up.state,
+            Some(Drained { any_failed }) => {
+                state_once_drained(up.protocol, up.state, any_failed)
+            }
+        }
+    }
+
+    /// What `up_tick` says.
+    pub fn up_says(&self) -> Option<Notice>
+        requires { ScopeFits self.now }
+        ensures { result ≡ (tick_up self.now).says }
+    {
+        let Some(up) = &self.up else {
+            return None;
+        };
+        if up.owes || up.asks {
+            return up.says();
+        }
+        ba_tables::p_says(up.protocol, self.state_at_tick(up))
+    }
+
     /// A child's own participant says what it has to say now; where it neither owes nor asks, it acts once its scope
     /// is drained.
     pub fn up_tick(&mut self) -> Option<Notice>
@@ -335,22 +496,37 @@ impl Fields {
         up.ask()
     }
 
-    /// Enrols a participant that it hasn't enrolled.
-    pub fn enrol(&mut self, id: Id, protocol: Protocol, participant: Epr) -> Result<(), EnrolFault>
-        ensures enrolled { OnOk result (self.new ≡ scope_with_end self.old id protocol participant) }
-        ensures refused { IfSome (enrol_refusal self.old) (λ why. result ≡ Err why) }
-        ensures why { IfErr result (λ why. why ≢ EnrolFault.Memory → enrol_refusal self.old ≡ Some why) }
-        ensures unchanged { OnErr result (self.new ≡ self.old) }
+    // ---- registering
+
+    /// Why it doesn't enrol a participant that it hasn't enrolled, where it doesn't.
+    pub fn enrol_refusal(&self) -> Option<EnrolFault>
+        ensures { result ≡ enrol_refusal self.now }
     {
         if is_registering_above(&self.up) {
-            return Err(EnrolFault::NotYetEnrolled);
+            return Some(EnrolFault::NotYetEnrolled);
         }
         if self.verdict.is_some() || !is_at_work_above(&self.up) {
-            return Err(EnrolFault::Sealed);
+            return Some(EnrolFault::Sealed);
         }
         if self.ends.len() as u64 >= u64::from(self.limit) {
-            return Err(EnrolFault::Full);
+            return Some(EnrolFault::Full);
         }
+        None
+    }
+
+    /// Room for one end more than it has.
+    pub fn room(&self) -> Result<Room, Memory>
+        requires { ScopeFits self.now }
+        ensures { IfOk result (λ room. length self.now.ends < room) }
+    {
+        Room::take(*self.ends.allocator(), self.ends.len() + 1)
+    }
+
+    /// Enrols a participant, in room that was taken before.
+    pub fn enrol(&mut self, room: Room, id: Id, protocol: Protocol, participant: Epr)
+        requires { length self.old.ends < room }
+        ensures { self.new ≡ scope_with_end self.old id protocol participant }
+    {
         let end = End {
             id,
             protocol,
@@ -360,10 +536,10 @@ impl Fields {
             owes: false,
             asks: false,
         };
-        match self.ends.push(end) {
-            Ok(()) => Ok(()),
-            Err(_) => Err(EnrolFault::Memory),
-        }
+        let mut ends = mem::replace(&mut self.ends, room.into_block());
+        // There is room for them all, so this doesn't fail.
+        let _ = self.ends.append(&mut ends);
+        self.ends.push_reserved(end);
     }
 
     /// A child's own participant is enrolled, and its coordinator's end is there.
@@ -425,20 +601,6 @@ fn state_by_row(before: PState, row: PRow) -> PState
     match row {
         PRow::Invalid => before,
         PRow::Row { next, .. } => next,
-    }
-}
-
-// The verdict that comes from above as the participant goes from one state to the next.
-fn verdict_from_above(before: PState, next: PState) -> Option<Verdict>
-    ensures { result ≡ verdict_on_the_way before next }
-{
-    if before == next {
-        return None;
-    }
-    match next {
-        PState::Closing => Some(Verdict::Close),
-        PState::Canceling | PState::Compensating => Some(Verdict::Undo),
-        _ => None,
     }
 }
 

@@ -1,16 +1,17 @@
 //! A scope as its callers see it.
-ghost use Rattle.std.specs.Prelude.{◌≡◌, ◌≢◌, IsTrue, IfErr, IfSome, OnOk, OnErr, Err, None, Some, not};
+ghost use Rattle.std.specs.Prelude.{◌≡◌, ◌<◌, IsTrue, IfOk, IfSome, None, Some, length, not};
 ghost use Rattle.std.specs.Option.{option_map};
 ghost use Rattle.ba_core.specs.Messages.{is_column};
 ghost use Rattle.ba_scope.specs.Fits.{up_fits};
-ghost use Rattle.ba_scope.specs.Rules.{ask, choose, complete, decide, drained_as, end_receive, enrol_refusal, enrolled_scope, expire, finish, leave_by, new_scope, owe, refused_scope, tick_end, tick_up, up_receive, scope_with_end};
-ghost use Rattle.ba_scope.specs.Scope.{end_of, has_id, is_registering};
+ghost use Rattle.ba_scope.specs.Rules.{ask, choose, complete, decide, drained_as, end_receive, enrol_refusal, enrolled_scope, expire, finish, leave_by, new_scope, owe, refused_scope, state_at_tick, tick_end, tick_up, up_receive, scope_with_end};
+ghost use Rattle.ba_scope.specs.Scope.{end_of, end_with_id, has_id, is_registering};
 
 use crate::answers::{Drained, EnrolFault, MOST_ENDS, Said};
 use crate::ends::End;
 use crate::fields::Fields;
 use crate::parts::Part;
-use ba_core::{CRow, Id, Kind, Leave, Notice, PRow, Protocol, Verdict};
+use crate::rooms::Room;
+use ba_core::{CRow, Id, Kind, Leave, Memory, Notice, PRow, PState, Protocol, Verdict};
 use ba_message::Epr;
 use std::alloc::Global;
 use std::marker::Model;
@@ -107,6 +108,13 @@ impl Scope {
         self.fields.ends.as_slice()
     }
 
+    /// The end with this Id.
+    pub fn end(&self, id: Id) -> Option<&End>
+        ensures { option_map (λ e. e.now) result ≡ end_with_id self.now.ends id }
+    {
+        self.fields.end(id)
+    }
+
     /// The end of this participant, whose whole endpoint reference is equal.
     pub fn find(&self, participant: &Epr) -> Option<Id>
         ensures { result ≡ option_map (λ e. e.id) (end_of self.now.ends participant.now) }
@@ -128,18 +136,90 @@ impl Scope {
         self.fields.drained()
     }
 
+    // ---- what a call would answer
+
+    /// What `decide` would answer.
+    pub fn decision(&self, verdict: Verdict) -> Said
+        ensures { result ≡ (decide self.now verdict).answer }
+    {
+        self.fields.decision(verdict)
+    }
+
+    /// What `choose` would answer.
+    pub fn choice(&self, end: Id, verdict: Verdict) -> Said
+        ensures { result ≡ (choose self.now end verdict).answer }
+    {
+        self.fields.choice(end, verdict)
+    }
+
+    /// What `complete` would answer.
+    pub fn completion(&self, end: Id) -> Said
+        ensures { result ≡ (complete self.now end).answer }
+    {
+        self.fields.completion(end)
+    }
+
+    /// What `finish` would answer.
+    pub fn finishing(&self) -> Said
+        ensures { result ≡ (finish self.now).answer }
+    {
+        self.fields.finishing()
+    }
+
+    /// What `leave` would answer.
+    pub fn leaving(&self, how: Leave) -> Said
+        ensures { result ≡ (leave_by self.now how).answer }
+    {
+        self.fields.leaving(how)
+    }
+
+    /// What `expire` would answer.
+    pub fn expires(&self, now: u64) -> bool
+        ensures { result ≡ (expire self.now now).answer }
+    {
+        self.fields.expires(now)
+    }
+
+    /// For a child, the state in which its own participant would tick: it acts once the scope is drained.
+    pub fn up_state_at_tick(&self) -> Option<PState>
+        ensures { result ≡ option_map (state_at_tick self.now) self.now.up }
+    {
+        self.fields.up_state_at_tick()
+    }
+
+    /// What `up_tick` would say.
+    pub fn up_says(&self) -> Option<Notice>
+        ensures { result ≡ (tick_up self.now).says }
+    {
+        self.fields.up_says()
+    }
+
+    /// Why it doesn't enrol a participant that it hasn't enrolled, where it doesn't.
+    pub fn enrol_refusal(&self) -> Option<EnrolFault>
+        ensures { result ≡ enrol_refusal self.now }
+    {
+        self.fields.enrol_refusal()
+    }
+
+    /// Room for one end more than it has.
+    pub fn room(&self) -> Result<Room, Memory>
+        ensures { IfOk result (λ room. length self.now.ends < room) }
+    {
+        self.fields.room()
+    }
+
     // ---- its ends
 
-    /// Enrols a participant that it hasn't enrolled, by a new Id, as its last end: Active, and without verdict.
-    pub fn enrol(&mut self, id: Id, protocol: Protocol, participant: Epr) -> Result<(), EnrolFault>
+    /// Enrols a participant that it hasn't enrolled, by a new Id, as its last end: Active, and without verdict. It takes
+    /// no memory but the room.
+    pub fn enrol(&mut self, room: Room, id: Id, protocol: Protocol, participant: Epr)
+        requires allowed { enrol_refusal self.old ≡ None }
         requires new_participant { end_of self.old.ends participant ≡ None }
         requires new_id { IsTrue (not (has_id self.old id)) }
-        ensures enrolled { OnOk result (self.new ≡ scope_with_end self.old id protocol participant) }
-        ensures refused { IfSome (enrol_refusal self.old) (λ why. result ≡ Err why) }
-        ensures why { IfErr result (λ why. why ≢ EnrolFault.Memory → enrol_refusal self.old ≡ Some why) }
-        ensures unchanged { OnErr result (self.new ≡ self.old) }
+        requires room { length self.old.ends < room }
+        ensures { self.new ≡ scope_with_end self.old id protocol participant }
     {
-        self.fields.enrol(id, protocol, participant)
+        self.fields.enrol(room, id, protocol, participant);
     }
 
     /// Sets a verdict on a root of type AtomicOutcome, and on each of its ends.

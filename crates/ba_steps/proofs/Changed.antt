@@ -43,7 +43,7 @@ use Rattle.ba_steps.specs.Ticks.{TickStep, tick_step}
 use Rattle.ba_steps.proofs.Cases.{act_cases, ask_cases, create_cases, end_notice_cases, end_ticks, enrolled_cases, join_cases, on_choose_cases, on_complete_cases, on_decide_cases, on_finish_cases, on_leave_cases, part_notice_cases, refused_cases, register_cases, tick_cases, up_acts, up_talks}
 use Rattle.ba_steps.proofs.Members.{number_is_same, same_id_is, stays_among}
 use Rattle.ba_steps.proofs.Places.{EndStands, Stands, first_is, scope_found}
-use Rattle.ba_steps.proofs.ScopeCases.{choose_cases, complete_cases, decide_cases, finish_cases, leave_cases}
+use Rattle.ba_scope.proofs.ScopeCases.{choose_cases, complete_cases, decide_cases, finish_cases, leave_cases}
 
 -- ---- what differs
 

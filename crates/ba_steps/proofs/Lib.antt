@@ -13,6 +13,5 @@ pub mod Places
 pub mod Reenacted
 pub mod Replayed
 pub mod SameNode
-pub mod ScopeCases
 pub mod StepsFit
 pub mod Unchanged

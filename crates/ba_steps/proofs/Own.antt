@@ -24,7 +24,7 @@ use Rattle.ba_steps.specs.Endpoints.{part_endpoints, scope_endpoints}
 use Rattle.ba_steps.specs.Node.{scope_ids}
 use Rattle.ba_steps.proofs.Objects.{end_ids, up_ids}
 use Rattle.ba_tree.specs.Trees.{joined}
-use Rattle.ba_steps.proofs.ScopeCases.{choose_cases, complete_cases, decide_cases, finish_cases, leave_cases}
+use Rattle.ba_scope.proofs.ScopeCases.{choose_cases, complete_cases, decide_cases, finish_cases, leave_cases}
 
 -- the scope afterwards has the identifiers and the deadline of the one before
 pub record SameOwn (s after : ScopeState) : Type 0 where

@@ -2,7 +2,7 @@
 
 use ba_core::{Id, Kind, Leave, List, Protocol, Verdict};
 use ba_message::Epr;
-use ba_scope::{EnrolFault, Said, Scope};
+use ba_scope::{EnrolFault, Room, Said, Scope};
 use std::alloc::{AllocError, Global};
 use std::test::Fail;
 
@@ -13,6 +13,14 @@ fn participant(alloc: Global, number: u32) -> Result<Epr, AllocError> {
         address: List::of(address.into_bytes()),
         parameters: List::new(alloc),
     })
+}
+
+// Room for one end more than the scope has.
+fn room_in(scope: &Scope) -> Result<Room, AllocError> {
+    match scope.room() {
+        Ok(room) => Ok(room),
+        Err(_) => Err(AllocError),
+    }
 }
 
 // Enrols the participant of this number; `None` where the scope has it, or an object of its Id.
@@ -26,7 +34,12 @@ fn enrol(
     if scope.has_id(id) || scope.find(&participant).is_some() {
         return Ok(None);
     }
-    Ok(Some(scope.enrol(id, Protocol::Pc, participant)))
+    if let Some(why) = scope.enrol_refusal() {
+        return Ok(Some(Err(why)));
+    }
+    let room = room_in(scope)?;
+    scope.enrol(room, id, Protocol::Pc, participant);
+    Ok(Some(Ok(())))
 }
 
 #[test]

@@ -2,7 +2,7 @@
 
 use ba_core::{CRow, CState, How, Id, Kind, Leave, List, Notice, PRow, PState, Protocol, Verdict};
 use ba_message::Epr;
-use ba_scope::{Drained, EnrolFault, Part, Said, Scope};
+use ba_scope::{Drained, EnrolFault, Part, Room, Said, Scope};
 use std::alloc::{AllocError, Global};
 use std::test::Fail;
 
@@ -12,6 +12,14 @@ fn endpoint(alloc: Global, number: u32) -> Result<Epr, AllocError> {
         address: List::of(address.into_bytes()),
         parameters: List::new(alloc),
     })
+}
+
+// Room for one end more than the scope has.
+fn room_in(scope: &Scope) -> Result<Room, AllocError> {
+    match scope.room() {
+        Ok(room) => Ok(room),
+        Err(_) => Err(AllocError),
+    }
 }
 
 // Enrols the participant of this number; `None` where the scope has it, or an object of its Id.
@@ -25,7 +33,12 @@ fn enrol(
     if scope.has_id(id) || scope.find(&participant).is_some() {
         return Ok(None);
     }
-    Ok(Some(scope.enrol(id, Protocol::Pc, participant)))
+    if let Some(why) = scope.enrol_refusal() {
+        return Ok(Some(Err(why)));
+    }
+    let room = room_in(scope)?;
+    scope.enrol(room, id, Protocol::Pc, participant);
+    Ok(Some(Ok(())))
 }
 
 fn state_after(row: CRow) -> Option<CState> {
