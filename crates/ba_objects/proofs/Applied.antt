@@ -8,7 +8,7 @@ use Rattle.ba_objects.specs.declared.changes.PartChange.{PartChange}
 use Rattle.ba_objects.specs.declared.changes.ScopeChange.{ScopeChange}
 use Rattle.ba_scope.proofs.Lists.{some_branch}
 use Rattle.ba_scope.specs.Scope.{ScopeState}
-use Rattle.ba_scope.specs.declared.parts.Part.{Part}
+use Rattle.ba_ends.specs.declared.parts.Part.{Part}
 use Rattle.ba_steps.specs.Node.{NodeState}
 
 one_item : {A : Type 0} (xs : Option A) (x y : A) → xs ≡ Some x → xs ≡ Some y → x ≡ y

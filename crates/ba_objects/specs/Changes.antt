@@ -10,9 +10,10 @@ use Rattle.ba_objects.specs.declared.changes.ScopeChange.{ScopeChange}
 use Rattle.ba_objects.specs.declared.changes.ScopeChange.TheVariants as by_scope
 use Rattle.ba_objects.specs.declared.fields.Fields.{Fields}
 use Rattle.ba_objects.specs.declared.plans.Plan.{Plan}
-use Rattle.ba_scope.specs.Rules.{ask, choose, complete, decide, end_receive, enrolled_part, enrolled_scope, expire, finish, leave_by, owe, part_asking, part_in_state, part_owing, refused_part, refused_scope, tick_end, tick_of_part, tick_up, up_receive}
-use Rattle.ba_scope.specs.Scope.{ScopeState, is_registering}
-use Rattle.ba_scope.specs.declared.parts.Part.{Part}
+use Rattle.ba_ends.specs.Parts.{enrolled_part, part_asking, part_in_state, part_owing, refused_part, tick_of_part, is_registering}
+use Rattle.ba_scope.specs.Rules.{ask, choose, complete, decide, end_receive, enrolled_scope, expire, finish, leave_by, owe, refused_scope, tick_end, tick_up, up_receive}
+use Rattle.ba_scope.specs.Scope.{ScopeState}
+use Rattle.ba_ends.specs.declared.parts.Part.{Part}
 use Rattle.ba_steps.specs.Node.{NodeState}
 use Rattle.ba_steps.specs.Steps.{NodeStep}
 

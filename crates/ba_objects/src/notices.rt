@@ -6,8 +6,8 @@ ghost use Rattle.ba_core.specs.PartRows.{part_row, is_part_state};
 ghost use Rattle.ba_core.specs.declared.identifiers.Id.{Id};
 ghost use Rattle.ba_objects.specs.Changes.{Suits, node_of, planned_step};
 ghost use Rattle.ba_objects.specs.inside.Finds.{FindsEnd, FindsLone, FindsUp};
-ghost use Rattle.ba_scope.specs.Fits.{has_own_state};
-ghost use Rattle.ba_scope.specs.Scope.{has_no_coordinator};
+ghost use Rattle.ba_ends.specs.Ends.{has_own_state};
+ghost use Rattle.ba_ends.specs.Parts.{has_no_coordinator};
 ghost use Rattle.ba_steps.specs.Fits.{NodeFits};
 ghost use Rattle.ba_steps.specs.Node.{NodeState, lone, upward};
 ghost use Rattle.ba_steps.specs.Steps.{on_end_asked, on_end_notice, on_end_row, on_lone_row, on_notice, on_part_asked, on_part_heard, on_place_notice, on_up_row, wake_of_end, wake_of_up};
@@ -22,8 +22,9 @@ use crate::states::{
     settled,
 };
 use ba_core::{CRow, CState, Code, Id, Notice, PRow, PState, Side};
+use ba_ends::Part;
 use ba_record::Record;
-use ba_scope::{Part, Scope};
+use ba_scope::Scope;
 use ba_steps::Wake;
 
 /// A notice arrives at an end or at a participant.

@@ -1,16 +1,18 @@
 //! What a call of a scope would answer.
 ghost use Rattle.std.specs.Prelude.{◌≡◌, IsTrue, Some};
 ghost use Rattle.ba_core.specs.PartRows.{is_part_state};
-ghost use Rattle.ba_scope.specs.Fits.{has_own_state, up_fits};
-ghost use Rattle.ba_scope.specs.Rules.{act_when_drained, choose, complete, decide, expire, finish, is_atomic, is_ready_for, leave_act, leave_by, may_leave, state_after_act, state_at_tick, tick_of_end, tick_of_part};
-ghost use Rattle.ba_scope.specs.Scope.{end_with_id, first_failing, is_ended_state, is_ready_state};
+ghost use Rattle.ba_ends.specs.Ends.{has_own_state, is_ready_for, tick_of_end, end_with_id, first_failing, is_ended_state, is_ready_state};
+ghost use Rattle.ba_scope.specs.Fits.{up_fits};
+ghost use Rattle.ba_ends.specs.Parts.{act_when_drained, state_after_act, tick_of_part};
+ghost use Rattle.ba_scope.specs.Rules.{choose, complete, decide, expire, finish, is_atomic, leave_act, leave_by, may_leave, state_at_tick};
 
 use ba_core::{
     Act, CState, How, Id, Kind, Leave, Notice, PState, Protocol, Verdict, c_name, p_name,
 };
+use ba_ends::{End, Part};
 use ba_scope::{
-    ALREADY_DECIDED, End, NOT_A_CHILD, NOT_A_ROOT, NOT_DRAINED, NOT_READY, Part, Said, Scope,
-    WRONG_KIND, WRONG_STATE,
+    ALREADY_DECIDED, NOT_A_CHILD, NOT_A_ROOT, NOT_DRAINED, NOT_READY, Said, Scope, WRONG_KIND,
+    WRONG_STATE,
 };
 
 fn is_atomic_kind(kind: Kind) -> bool

@@ -3,8 +3,8 @@ ghost use Rattle.std.specs.Prelude.{◌≡◌, IsTrue, is_some};
 ghost use Rattle.ba_core.specs.EndRows.{is_end_state};
 ghost use Rattle.ba_link.specs.Link.{settled_state};
 ghost use Rattle.ba_message.specs.Dialing.{is_dialable};
-ghost use Rattle.ba_scope.specs.Rules.{verdict_on_the_way};
-ghost use Rattle.ba_scope.specs.Scope.{has_no_coordinator, is_ended_state};
+ghost use Rattle.ba_ends.specs.Parts.{verdict_on_the_way, has_no_coordinator};
+ghost use Rattle.ba_ends.specs.Ends.{is_ended_state};
 ghost use Rattle.ba_steps.specs.Steps.{is_get_status, is_registering_state, is_status, same_end_state, same_part_state};
 
 use ba_core::{CState, How, Notice, PState, Protocol, Verdict};

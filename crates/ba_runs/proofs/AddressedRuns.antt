@@ -1,7 +1,7 @@
 -- In each world of each run endpoints lead where they should; for the law of that name.
 use Rattle.std.proofs.Common.{inl, inr, ℕ, List, ◌∷◌, subst}
 use Rattle.ba_scope.specs.Scope.{ScopeState}
-use Rattle.ba_scope.specs.declared.parts.Part.{Part}
+use Rattle.ba_ends.specs.declared.parts.Part.{Part}
 use Rattle.ba_steps.specs.Node.{Among}
 use Rattle.ba_runs.specs.Runs.{IsRun, IsFirstWorld, goes_on, starts}
 use Rattle.ba_runs.specs.Safety.{IsAddressed}

@@ -27,9 +27,9 @@ use Rattle.ba_message.specs.declared.messages.Letter.{Letter}
 use Rattle.ba_message.specs.declared.messages.Message.TheVariants as message
 use Rattle.ba_scope.proofs.Calls.{led}
 use Rattle.ba_scope.proofs.Tables.{if_leads}
-use Rattle.ba_scope.specs.Rules.{end_after_row}
+use Rattle.ba_ends.specs.Ends.{end_after_row}
 use Rattle.ba_scope.specs.Scope.{ScopeState}
-use Rattle.ba_scope.specs.declared.ends.End.{End}
+use Rattle.ba_ends.specs.declared.ends.End.{End}
 use Rattle.ba_steps.specs.declared.inputs.Input.{Input}
 use Rattle.ba_steps.specs.Addresses.{sender_of}
 use Rattle.ba_steps.specs.Fits.{NodeFits}

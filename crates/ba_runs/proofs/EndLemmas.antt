@@ -9,8 +9,8 @@ use Rattle.ba_link.specs.Pairs.{verdict_fits_state}
 use Rattle.ba_scope.specs.Fits.{Above, above, end_fits, same_verdict, state_fits_above, up_state, verdict_fits_scope}
 use Rattle.ba_scope.specs.Rules.{own_choice}
 use Rattle.ba_scope.specs.Scope.{ScopeState}
-use Rattle.ba_scope.specs.declared.ends.End.{End}
-use Rattle.ba_scope.specs.declared.parts.Part.{Part}
+use Rattle.ba_ends.specs.declared.ends.End.{End}
+use Rattle.ba_ends.specs.declared.parts.Part.{Part}
 
 -- of two verdicts that are the same, one is the other
 pub same_verdict_is : (v : Verdict) (x : Option Verdict) → same_verdict (Some v) x ≡ true → x ≡ Some v

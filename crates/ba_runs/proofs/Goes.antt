@@ -8,9 +8,10 @@ use Rattle.ba_message.specs.declared.endpoints.Epr.{Epr}
 use Rattle.ba_message.specs.declared.messages.Context.{Context}
 use Rattle.ba_scope.proofs.Lists.{by_test}
 use Rattle.ba_scope.specs.Rules.{with_up}
-use Rattle.ba_scope.specs.Scope.{ScopeState, same_id}
-use Rattle.ba_scope.specs.declared.ends.End.{End}
-use Rattle.ba_scope.specs.declared.parts.Part.{Part}
+use Rattle.ba_ends.specs.Ends.{same_id}
+use Rattle.ba_scope.specs.Scope.{ScopeState}
+use Rattle.ba_ends.specs.declared.ends.End.{End}
+use Rattle.ba_ends.specs.declared.parts.Part.{Part}
 use Rattle.ba_steps.specs.declared.inputs.Input.{Input}
 use Rattle.ba_steps.specs.declared.inputs.Input.TheVariants as input
 use Rattle.ba_steps.specs.Fits.{NodeFits}

@@ -19,8 +19,8 @@ use Rattle.ba_message.specs.declared.messages.Message.{Message}
 use Rattle.ba_message.specs.declared.messages.Message.TheVariants as message
 use Rattle.ba_message.proofs.FitTests.{endpoints_equal}
 use Rattle.ba_scope.specs.Scope.{ScopeState}
-use Rattle.ba_scope.specs.declared.ends.End.{End}
-use Rattle.ba_scope.specs.declared.parts.Part.{Part}
+use Rattle.ba_ends.specs.declared.ends.End.{End}
+use Rattle.ba_ends.specs.declared.parts.Part.{Part}
 use Rattle.ba_steps.specs.Addresses.{message_number, register_code, sender_of}
 use Rattle.ba_steps.specs.Node.{Among, NodeState}
 use Rattle.ba_steps.specs.Steps.{refusal_number}

@@ -24,10 +24,11 @@ use Rattle.ba_link.proofs.Kept.{end_in_place, part_in_place}
 use Rattle.ba_message.specs.declared.messages.Letter.{Letter}
 use Rattle.ba_message.specs.declared.messages.Message.TheVariants as message
 use Rattle.ba_scope.proofs.Lists.{by_test}
-use Rattle.ba_scope.specs.Rules.{end_after_row}
-use Rattle.ba_scope.specs.Scope.{ScopeState, has_no_coordinator}
-use Rattle.ba_scope.specs.declared.ends.End.{End}
-use Rattle.ba_scope.specs.declared.parts.Part.{Part}
+use Rattle.ba_ends.specs.Ends.{end_after_row}
+use Rattle.ba_ends.specs.Parts.{has_no_coordinator}
+use Rattle.ba_scope.specs.Scope.{ScopeState}
+use Rattle.ba_ends.specs.declared.ends.End.{End}
+use Rattle.ba_ends.specs.declared.parts.Part.{Part}
 use Rattle.ba_steps.specs.Addresses.{sender_of}
 use Rattle.ba_steps.specs.Node.{Among, EndPlace, HasPart, NodeState, PartPlace, end_place, lone, part_place, upward}
 use Rattle.ba_steps.specs.Steps.{NodeStep, accepted_step, again_step, fault_step, is_get_status, is_status, node_step, on_end_asked, on_end_notice, on_end_row, on_lone_row, on_part_asked, on_part_heard, on_place_notice, on_up_row, same_end_state, same_part_state}

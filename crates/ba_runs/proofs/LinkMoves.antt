@@ -16,9 +16,10 @@ use Rattle.ba_message.specs.declared.endpoints.Epr.{Epr}
 use Rattle.ba_scope.proofs.Lists.{by_test}
 use Rattle.ba_scope.proofs.Tables.{is_open_state}
 use Rattle.ba_scope.specs.Rules.{changed_at, with_up}
-use Rattle.ba_scope.specs.Scope.{ScopeState, end_of, is_at_work, is_full, is_sealed, same_id, takes_no_more}
-use Rattle.ba_scope.specs.declared.ends.End.{End}
-use Rattle.ba_scope.specs.declared.parts.Part.{Part}
+use Rattle.ba_ends.specs.Ends.{end_of, same_id}
+use Rattle.ba_scope.specs.Scope.{ScopeState, is_at_work, is_full, is_sealed, takes_no_more}
+use Rattle.ba_ends.specs.declared.ends.End.{End}
+use Rattle.ba_ends.specs.declared.parts.Part.{Part}
 
 -- ---- the end of a participant
 

@@ -12,9 +12,10 @@ use Rattle.ba_link.proofs.Kept.{links_stay_possible}
 use Rattle.ba_message.specs.Endpoints.{same_epr}
 use Rattle.ba_message.specs.declared.endpoints.Epr.{Epr}
 use Rattle.ba_message.proofs.FitTests.{endpoints_equal}
-use Rattle.ba_scope.specs.Scope.{ScopeState, end_of, takes_no_more}
-use Rattle.ba_scope.specs.declared.ends.End.{End}
-use Rattle.ba_scope.specs.declared.parts.Part.{Part}
+use Rattle.ba_ends.specs.Ends.{end_of}
+use Rattle.ba_scope.specs.Scope.{ScopeState, takes_no_more}
+use Rattle.ba_ends.specs.declared.ends.End.{End}
+use Rattle.ba_ends.specs.declared.parts.Part.{Part}
 use Rattle.ba_steps.specs.Addresses.{participant_of}
 use Rattle.ba_steps.specs.Fits.{IsIdAt}
 use Rattle.ba_steps.specs.Node.{Among, NodeState, counter, ids, last, next_id}

@@ -8,11 +8,13 @@ use Rattle.ba_core.specs.declared.protocols.Verdict.{Verdict}
 use Rattle.ba_core.specs.declared.protocols.Verdict.TheVariants.{Undo}
 use Rattle.ba_scope.proofs.Calls.{by_option}
 use Rattle.ba_scope.proofs.Lists.{by_test}
-use Rattle.ba_scope.specs.Rules.{ScopeStep, Tick, choose, complete, decide, end_after_notice, end_asking, end_owing, end_with_verdict_if_none, enrolled_part, expire, finish, is_expired, leave_by, part_asking, part_in_state, part_owing, refused_part, scope_with_end, tick_of_end, tick_of_part, tick_up, with_end_changed, with_up, with_up_moved}
-use Rattle.ba_scope.specs.Scope.{ScopeState, same_id}
+use Rattle.ba_ends.specs.Ends.{Tick, end_after_notice, end_asking, end_owing, end_with_verdict_if_none, tick_of_end, same_id}
+use Rattle.ba_ends.specs.Parts.{enrolled_part, part_asking, part_in_state, part_owing, refused_part, tick_of_part}
+use Rattle.ba_scope.specs.Rules.{ScopeStep, choose, complete, decide, expire, finish, is_expired, leave_by, scope_with_end, tick_up, with_end_changed, with_up, with_up_moved}
+use Rattle.ba_scope.specs.Scope.{ScopeState}
 use Rattle.ba_scope.specs.declared.answers.Said.{Said}
-use Rattle.ba_scope.specs.declared.ends.End.{End}
-use Rattle.ba_scope.specs.declared.parts.Part.{Part}
+use Rattle.ba_ends.specs.declared.ends.End.{End}
+use Rattle.ba_ends.specs.declared.parts.Part.{Part}
 use Rattle.ba_steps.specs.declared.inputs.Input.{Input}
 use Rattle.ba_steps.specs.declared.inputs.Input.TheVariants as input
 use Rattle.ba_steps.specs.Fits.{NodeFits}

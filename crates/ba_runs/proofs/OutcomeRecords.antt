@@ -24,9 +24,10 @@ use Rattle.ba_message.specs.declared.messages.Message.{Message}
 use Rattle.ba_message.specs.declared.messages.Message.TheVariants as message
 use Rattle.ba_record.specs.declared.records.Record.{Record}
 use Rattle.ba_record.specs.declared.records.Record.TheVariants as journal
-use Rattle.ba_scope.specs.Rules.{end_after_notice, end_after_row, with_end_changed}
+use Rattle.ba_ends.specs.Ends.{end_after_notice, end_after_row}
+use Rattle.ba_scope.specs.Rules.{with_end_changed}
 use Rattle.ba_scope.specs.Scope.{ScopeState}
-use Rattle.ba_scope.specs.declared.ends.End.{End}
+use Rattle.ba_ends.specs.declared.ends.End.{End}
 use Rattle.ba_steps.specs.declared.answers.Reply.TheVariants as reply
 use Rattle.ba_steps.specs.declared.answers.Wake.{Wake}
 use Rattle.ba_steps.specs.declared.inputs.Input.{Input}

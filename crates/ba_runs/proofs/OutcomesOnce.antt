@@ -15,9 +15,10 @@ use Rattle.ba_link.proofs.Everywhere.{ends, only_if, protocol_passes, protocols,
 use Rattle.ba_scope.proofs.Calls.{led}
 use Rattle.ba_scope.proofs.Lists.{by_test}
 use Rattle.ba_scope.proofs.Tables.{if_leads}
-use Rattle.ba_scope.specs.Rules.{changed_at, end_after_notice, with_end_changed}
-use Rattle.ba_scope.specs.Scope.{ScopeState, same_id}
-use Rattle.ba_scope.specs.declared.ends.End.{End}
+use Rattle.ba_ends.specs.Ends.{end_after_notice, same_id}
+use Rattle.ba_scope.specs.Rules.{changed_at, with_end_changed}
+use Rattle.ba_scope.specs.Scope.{ScopeState}
+use Rattle.ba_ends.specs.declared.ends.End.{End}
 use Rattle.ba_steps.specs.declared.inputs.Input.{Input}
 use Rattle.ba_steps.specs.Fits.{NodeFits}
 use Rattle.ba_steps.specs.Node.{Among, EndPlace, NodeState, scope_in_place_of, with_scope}

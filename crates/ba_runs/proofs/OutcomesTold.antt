@@ -9,7 +9,7 @@ use Rattle.ba_core.specs.declared.notices.Notice.{Notice}
 use Rattle.ba_link.specs.Outcomes.{is_outcome}
 use Rattle.ba_message.specs.declared.messages.Letter.{Letter}
 use Rattle.ba_message.specs.declared.messages.Message.TheVariants as message
-use Rattle.ba_scope.specs.declared.parts.Part.{Part}
+use Rattle.ba_ends.specs.declared.parts.Part.{Part}
 use Rattle.ba_steps.specs.Addresses.{message_number}
 use Rattle.ba_steps.specs.Node.{Among, HasPart, NodeState}
 use Rattle.ba_steps.specs.Steps.{node_step}

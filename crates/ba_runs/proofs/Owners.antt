@@ -8,9 +8,10 @@ use Rattle.ba_message.specs.Endpoints.{same_epr}
 use Rattle.ba_message.specs.declared.endpoints.Epr.{Epr}
 use Rattle.ba_message.proofs.FitTests.{endpoint_itself}
 use Rattle.ba_scope.specs.Fits.{ScopeFits, above, are_apart, end_fits, is_other_end}
-use Rattle.ba_scope.specs.Scope.{ScopeState, same_id}
-use Rattle.ba_scope.specs.declared.ends.End.{End}
-use Rattle.ba_scope.specs.declared.parts.Part.{Part}
+use Rattle.ba_ends.specs.Ends.{same_id}
+use Rattle.ba_scope.specs.Scope.{ScopeState}
+use Rattle.ba_ends.specs.declared.ends.End.{End}
+use Rattle.ba_ends.specs.declared.parts.Part.{Part}
 use Rattle.ba_steps.specs.Addresses.{message_number, register_code, sender_of}
 use Rattle.ba_steps.specs.Fits.{IsIdAt, NodeFits}
 use Rattle.ba_steps.specs.Node.{Among}

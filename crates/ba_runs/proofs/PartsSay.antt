@@ -28,11 +28,13 @@ use Rattle.ba_record.specs.declared.records.Record.TheVariants as journal
 use Rattle.ba_scope.proofs.Calls.{by_option, led, ticked_part}
 use Rattle.ba_scope.proofs.Lists.{by_test}
 use Rattle.ba_scope.proofs.Tables.{if_leads}
-use Rattle.ba_scope.specs.Rules.{ScopeStep, Tick, act_when_drained, choose, complete, decide, end_after_notice, end_asking, end_in_state, end_owing, enrolled_part, expire, finish, is_expired, leave_act, leave_by, part_asking, part_at_tick, part_in_state, part_owing, refused_part, scope_with_end, state_after_act, state_at_tick, tick_of_end, tick_of_part, tick_up, with_end_changed, with_up, with_up_moved}
-use Rattle.ba_scope.specs.Scope.{ScopeState, any_failed, is_drained, same_id}
+use Rattle.ba_ends.specs.Ends.{Tick, end_after_notice, end_asking, end_in_state, end_owing, tick_of_end, same_id}
+use Rattle.ba_ends.specs.Parts.{act_when_drained, enrolled_part, part_asking, part_in_state, part_owing, refused_part, state_after_act, tick_of_part}
+use Rattle.ba_scope.specs.Rules.{ScopeStep, choose, complete, decide, expire, finish, is_expired, leave_act, leave_by, part_at_tick, scope_with_end, state_at_tick, tick_up, with_end_changed, with_up, with_up_moved}
+use Rattle.ba_scope.specs.Scope.{ScopeState, any_failed, is_drained}
 use Rattle.ba_scope.specs.declared.answers.Said.{Said}
-use Rattle.ba_scope.specs.declared.ends.End.{End}
-use Rattle.ba_scope.specs.declared.parts.Part.{Part}
+use Rattle.ba_ends.specs.declared.ends.End.{End}
+use Rattle.ba_ends.specs.declared.parts.Part.{Part}
 use Rattle.ba_steps.specs.declared.inputs.Input.{Input}
 use Rattle.ba_steps.specs.declared.inputs.Input.TheVariants as input
 use Rattle.ba_steps.specs.Addresses.{message_number}

@@ -19,12 +19,14 @@ use Rattle.ba_message.specs.declared.endpoints.Epr.{Epr}
 use Rattle.ba_message.specs.declared.messages.Letter.{Letter}
 use Rattle.ba_message.proofs.FitTests.{endpoints_equal}
 use Rattle.ba_scope.proofs.Lists.{by_test}
-use Rattle.ba_scope.specs.Rules.{end_after_row, enrol_refusal, expire, new_end, scope_with_end, tick_of_end, tick_of_part, tick_up}
-use Rattle.ba_scope.specs.Scope.{ScopeState, end_of, has_no_coordinator, same_id}
+use Rattle.ba_ends.specs.Ends.{end_after_row, new_end, tick_of_end, end_of, same_id}
+use Rattle.ba_ends.specs.Parts.{tick_of_part, has_no_coordinator}
+use Rattle.ba_scope.specs.Rules.{enrol_refusal, expire, scope_with_end, tick_up}
+use Rattle.ba_scope.specs.Scope.{ScopeState}
 use Rattle.ba_scope.specs.declared.answers.EnrolFault.{EnrolFault}
 use Rattle.ba_scope.specs.declared.answers.EnrolFault.TheVariants.{NotYetEnrolled}
-use Rattle.ba_scope.specs.declared.ends.End.{End}
-use Rattle.ba_scope.specs.declared.parts.Part.{Part}
+use Rattle.ba_ends.specs.declared.ends.End.{End}
+use Rattle.ba_ends.specs.declared.parts.Part.{Part}
 use Rattle.ba_steps.specs.declared.answers.Reply.{Reply}
 use Rattle.ba_steps.specs.declared.answers.Reply.TheVariants as reply
 use Rattle.ba_steps.specs.Addresses.{coordinator_of}

@@ -1,9 +1,10 @@
 -- Each end has one link, each participant and each scope fits; and what is sound is safe. For the laws of these names.
 use Rattle.std.proofs.Common.{inl, inr, ℕ, List, ◌∷◌, Option, IsTrue, sym, ◌∙◌, subst}
-use Rattle.ba_scope.specs.Fits.{ScopeFits, part_fits, up_fits}
+use Rattle.ba_ends.specs.Parts.{part_fits}
+use Rattle.ba_scope.specs.Fits.{ScopeFits, up_fits}
 use Rattle.ba_scope.specs.Scope.{ScopeState}
-use Rattle.ba_scope.specs.declared.ends.End.{End}
-use Rattle.ba_scope.specs.declared.parts.Part.{Part}
+use Rattle.ba_ends.specs.declared.ends.End.{End}
+use Rattle.ba_ends.specs.declared.parts.Part.{Part}
 use Rattle.ba_steps.specs.Node.{Among}
 use Rattle.ba_steps.proofs.Objects.{lone_fits}
 use Rattle.ba_runs.specs.Links.{HasOneLink}

@@ -17,11 +17,13 @@ use Rattle.ba_core.specs.declared.states.PState.{PState}
 use Rattle.ba_message.specs.declared.endpoints.Epr.{Epr}
 use Rattle.ba_scope.proofs.Calls.{by_option}
 use Rattle.ba_scope.proofs.Lists.{by_test}
-use Rattle.ba_scope.specs.Rules.{ScopeStep, Tick, changed_at, choose, complete, decide, end_after_notice, end_after_row, end_asking, end_in_state, end_owing, end_with_verdict, end_with_verdict_if_any, end_with_verdict_if_none, enrolled_part, expire, finish, is_expired, leave_by, new_end, part_asking, part_owing, refused_part, scope_with_end, tick_of_end, tick_up, verdict_on_the_way, with_end_changed, with_up, with_up_moved, word_for}
-use Rattle.ba_scope.specs.Scope.{ScopeState, end_with_id, same_id}
+use Rattle.ba_ends.specs.Ends.{Tick, end_after_notice, end_after_row, end_asking, end_in_state, end_owing, end_with_verdict, end_with_verdict_if_none, new_end, tick_of_end, end_with_id, same_id}
+use Rattle.ba_ends.specs.Parts.{enrolled_part, part_asking, part_owing, refused_part, verdict_on_the_way}
+use Rattle.ba_scope.specs.Rules.{ScopeStep, changed_at, choose, complete, decide, end_with_verdict_if_any, expire, finish, is_expired, leave_by, scope_with_end, tick_up, with_end_changed, with_up, with_up_moved, word_for}
+use Rattle.ba_scope.specs.Scope.{ScopeState}
 use Rattle.ba_scope.specs.declared.answers.Said.{Said}
-use Rattle.ba_scope.specs.declared.ends.End.{End}
-use Rattle.ba_scope.specs.declared.parts.Part.{Part}
+use Rattle.ba_ends.specs.declared.ends.End.{End}
+use Rattle.ba_ends.specs.declared.parts.Part.{Part}
 use Rattle.ba_steps.specs.declared.inputs.Input.{Input}
 use Rattle.ba_steps.specs.declared.inputs.Input.TheVariants as input
 use Rattle.ba_steps.specs.Fits.{NodeFits}

@@ -19,12 +19,14 @@ use Rattle.ba_core.specs.declared.states.PState.TheVariants as part
 use Rattle.ba_message.specs.declared.endpoints.Epr.{Epr}
 use Rattle.ba_scope.proofs.Calls.{by_option, registering_is, ticked_part}
 use Rattle.ba_scope.proofs.Lists.{by_test}
-use Rattle.ba_scope.specs.Fits.{part_fits, up_fits}
-use Rattle.ba_scope.specs.Rules.{ScopeStep, Tick, changed_at, choose, complete, decide, end_after_notice, end_after_row, end_asking, end_in_state, end_owing, end_with_verdict, end_with_verdict_if_any, end_with_verdict_if_none, enrolled_part, expire, finish, is_expired, leave_by, part_asking, part_at_tick, part_in_state, part_owing, refused_part, scope_with_end, state_at_tick, tick_of_end, tick_of_part, tick_up, verdict_on_the_way, with_end_changed, with_up, with_up_moved, word_for}
-use Rattle.ba_scope.specs.Scope.{ScopeState, has_no_coordinator, same_id}
+use Rattle.ba_ends.specs.Parts.{part_fits, enrolled_part, part_asking, part_in_state, part_owing, refused_part, tick_of_part, verdict_on_the_way, has_no_coordinator}
+use Rattle.ba_scope.specs.Fits.{up_fits}
+use Rattle.ba_ends.specs.Ends.{Tick, end_after_notice, end_after_row, end_asking, end_in_state, end_owing, end_with_verdict, end_with_verdict_if_none, tick_of_end, same_id}
+use Rattle.ba_scope.specs.Rules.{ScopeStep, changed_at, choose, complete, decide, end_with_verdict_if_any, expire, finish, is_expired, leave_by, part_at_tick, scope_with_end, state_at_tick, tick_up, with_end_changed, with_up, with_up_moved, word_for}
+use Rattle.ba_scope.specs.Scope.{ScopeState}
 use Rattle.ba_scope.specs.declared.answers.Said.{Said}
-use Rattle.ba_scope.specs.declared.ends.End.{End}
-use Rattle.ba_scope.specs.declared.parts.Part.{Part}
+use Rattle.ba_ends.specs.declared.ends.End.{End}
+use Rattle.ba_ends.specs.declared.parts.Part.{Part}
 use Rattle.ba_steps.specs.declared.inputs.Input.{Input}
 use Rattle.ba_steps.specs.declared.inputs.Input.TheVariants as input
 use Rattle.ba_steps.specs.Fits.{NodeFits}

@@ -11,9 +11,10 @@ use Rattle.ba_message.specs.Endpoints.{same_epr}
 use Rattle.ba_message.specs.declared.endpoints.Epr.{Epr}
 use Rattle.ba_message.specs.declared.messages.Letter.{Letter}
 use Rattle.ba_message.specs.declared.messages.Message.TheVariants as message
-use Rattle.ba_scope.specs.Scope.{ScopeState, end_of}
-use Rattle.ba_scope.specs.declared.ends.End.{End}
-use Rattle.ba_scope.specs.declared.parts.Part.{Part}
+use Rattle.ba_ends.specs.Ends.{end_of}
+use Rattle.ba_scope.specs.Scope.{ScopeState}
+use Rattle.ba_ends.specs.declared.ends.End.{End}
+use Rattle.ba_ends.specs.declared.parts.Part.{Part}
 use Rattle.ba_steps.specs.Node.{Among, HasPart, NodeState, next_id, with_lone, with_new_part, with_new_scope, with_scope}
 use Rattle.ba_steps.specs.Steps.{NodeStep, refusal_number}
 use Rattle.ba_steps.specs.Ticks.{TickStep, notice_letter, register_letter}

@@ -22,9 +22,11 @@ use Rattle.ba_link.proofs.Everywhere.{part_passes, parts, protocol_passes}
 use Rattle.ba_scope.proofs.Calls.{led, registering_is, ticked_part}
 use Rattle.ba_scope.proofs.Lists.{by_test, false_branch}
 use Rattle.ba_scope.proofs.Tables.{act_closes, each_act_closes, is_open_state}
-use Rattle.ba_scope.specs.Rules.{Tick, act_when_drained, enrolled_part, part_at_tick, part_in_state, refused_part, state_after_act, state_at_tick, tick_of_part}
+use Rattle.ba_ends.specs.Ends.{Tick}
+use Rattle.ba_ends.specs.Parts.{act_when_drained, enrolled_part, part_in_state, refused_part, state_after_act, tick_of_part}
+use Rattle.ba_scope.specs.Rules.{part_at_tick, state_at_tick}
 use Rattle.ba_scope.specs.Scope.{ScopeState, any_failed, is_drained}
-use Rattle.ba_scope.specs.declared.parts.Part.{Part}
+use Rattle.ba_ends.specs.declared.parts.Part.{Part}
 use Rattle.ba_steps.specs.declared.inputs.Input.{Input}
 use Rattle.ba_steps.specs.declared.inputs.Input.TheVariants as input
 use Rattle.ba_steps.specs.Node.{NodeState}

@@ -19,10 +19,11 @@ use Rattle.ba_message.specs.Endpoints.{same_epr}
 use Rattle.ba_message.specs.declared.endpoints.Epr.{Epr}
 use Rattle.ba_message.proofs.FitTests.{endpoint_itself}
 use Rattle.ba_scope.proofs.Lists.{by_test}
-use Rattle.ba_scope.specs.Rules.{Tick, changed_at, end_after_notice, end_after_row, end_in_state, end_with_verdict, new_end, scope_with_end, tick_of_end, with_end_changed}
-use Rattle.ba_scope.specs.Scope.{ScopeState, end_of, same_id, takes_no_more}
-use Rattle.ba_scope.specs.declared.ends.End.{End}
-use Rattle.ba_scope.specs.declared.parts.Part.{Part}
+use Rattle.ba_ends.specs.Ends.{Tick, end_after_notice, end_after_row, end_in_state, end_with_verdict, new_end, tick_of_end, end_of, same_id}
+use Rattle.ba_scope.specs.Rules.{changed_at, scope_with_end, with_end_changed}
+use Rattle.ba_scope.specs.Scope.{ScopeState, takes_no_more}
+use Rattle.ba_ends.specs.declared.ends.End.{End}
+use Rattle.ba_ends.specs.declared.parts.Part.{Part}
 use Rattle.ba_runs.specs.Links.{link_state, side_of}
 use Rattle.ba_runs.proofs.LinkMoves.{KeepsOwner, Quiet, at_keeps_owner, end_of_map, end_of_new, end_of_others, link_with, moves_quiet, stays_quiet, takes_as_before, takes_no_less}
 use Rattle.ba_runs.proofs.Strides.{SaysAtMost, Strides, moves, speaks_first, speaks_last, stays}

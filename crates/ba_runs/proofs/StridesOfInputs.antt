@@ -15,11 +15,13 @@ use Rattle.ba_message.proofs.FitTests.{endpoints_equal}
 use Rattle.ba_scope.proofs.Calls.{registering_is}
 use Rattle.ba_scope.proofs.Lists.{by_test}
 use Rattle.ba_scope.proofs.Tables.{is_open_state}
-use Rattle.ba_scope.specs.Rules.{choose, complete, decide, end_after_notice, end_asking, end_owing, enrol_refusal, enrolled_part, finish, leave_by, part_asking, part_in_state, part_owing, refused_part, scope_with_end, with_end_changed, with_up, with_up_moved}
-use Rattle.ba_scope.specs.Scope.{ScopeState, end_of, end_with_id, is_full, is_registering, is_sealed, same_id, takes_no_more}
+use Rattle.ba_ends.specs.Ends.{end_after_notice, end_asking, end_owing, end_of, end_with_id, same_id}
+use Rattle.ba_ends.specs.Parts.{enrolled_part, part_asking, part_in_state, part_owing, refused_part, is_registering}
+use Rattle.ba_scope.specs.Rules.{choose, complete, decide, enrol_refusal, finish, leave_by, scope_with_end, with_end_changed, with_up, with_up_moved}
+use Rattle.ba_scope.specs.Scope.{ScopeState, is_full, is_sealed, takes_no_more}
 use Rattle.ba_scope.specs.declared.answers.EnrolFault.TheVariants.{NotYetEnrolled, Sealed, Full}
-use Rattle.ba_scope.specs.declared.ends.End.{End}
-use Rattle.ba_scope.specs.declared.parts.Part.{Part}
+use Rattle.ba_ends.specs.declared.ends.End.{End}
+use Rattle.ba_ends.specs.declared.parts.Part.{Part}
 use Rattle.ba_steps.specs.declared.answers.Reply.{Reply}
 use Rattle.ba_steps.specs.declared.answers.Reply.TheVariants as reply
 use Rattle.ba_steps.specs.declared.inputs.Input.{Input}

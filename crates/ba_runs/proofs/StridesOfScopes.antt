@@ -31,11 +31,13 @@ use Rattle.ba_scope.proofs.Sealed.{stays_sealed}
 use Rattle.ba_scope.proofs.Tables.{above_passes, allows, each_decision_allows, each_handing_allows, end_passes, for_kinds, handing_allows, handings_allow, is_open_state, row_known, row_leads, rows_are_known, rows_lead, undecided}
 use Rattle.ba_scope.specs.Calls.{by_up_receive}
 use Rattle.ba_scope.specs.Fits.{Above as Seen, ScopeFits, above, end_fits, up_state, verdict_fits_scope, state_fits_above}
-use Rattle.ba_scope.specs.Rules.{ScopeStep, choose, complete, decide, end_after_notice, end_in_state, end_with_verdict, end_with_verdict_if_any, end_with_verdict_if_none, expire, finish, is_expired, is_ready_for, leave_act, leave_by, own_choice, part_in_state, scope_with_verdict, state_after_row, up_receive, verdict_on_the_way, with_end_changed, with_up, with_up_moved, word_for}
-use Rattle.ba_scope.specs.Scope.{ScopeState, end_of, end_with_id, is_sealed, same_id, takes_no_more}
+use Rattle.ba_ends.specs.Ends.{end_after_notice, end_in_state, end_with_verdict, end_with_verdict_if_none, is_ready_for, end_of, end_with_id, same_id}
+use Rattle.ba_ends.specs.Parts.{part_in_state, state_after_row, verdict_on_the_way}
+use Rattle.ba_scope.specs.Rules.{ScopeStep, choose, complete, decide, end_with_verdict_if_any, expire, finish, is_expired, leave_act, leave_by, own_choice, scope_with_verdict, up_receive, with_end_changed, with_up, with_up_moved, word_for}
+use Rattle.ba_scope.specs.Scope.{ScopeState, is_sealed, takes_no_more}
 use Rattle.ba_scope.specs.declared.answers.Said.{Said}
-use Rattle.ba_scope.specs.declared.ends.End.{End}
-use Rattle.ba_scope.specs.declared.parts.Part.{Part}
+use Rattle.ba_ends.specs.declared.ends.End.{End}
+use Rattle.ba_ends.specs.declared.parts.Part.{Part}
 use Rattle.ba_steps.specs.declared.inputs.Input.{Input}
 use Rattle.ba_steps.specs.declared.inputs.Input.TheVariants as input
 use Rattle.ba_steps.specs.Node.{Among}

@@ -24,10 +24,12 @@ use Rattle.ba_scope.proofs.Calls.{ticked_part}
 use Rattle.ba_scope.proofs.Lists.{by_test, false_branch, not_true, some_branch}
 use Rattle.ba_scope.proofs.Sealed.{stays_sealed}
 use Rattle.ba_scope.specs.Calls.{by_up_tick}
-use Rattle.ba_scope.specs.Rules.{Tick, changed_at, end_in_state, expire, part_at_tick, part_in_state, state_at_tick, tick_of_end, tick_of_part, tick_up, with_end_changed, with_up}
-use Rattle.ba_scope.specs.Scope.{ScopeState, end_of, is_sealed, same_id, takes_no_more}
-use Rattle.ba_scope.specs.declared.ends.End.{End}
-use Rattle.ba_scope.specs.declared.parts.Part.{Part}
+use Rattle.ba_ends.specs.Ends.{Tick, end_in_state, tick_of_end, end_of, same_id}
+use Rattle.ba_ends.specs.Parts.{part_in_state, tick_of_part}
+use Rattle.ba_scope.specs.Rules.{changed_at, expire, part_at_tick, state_at_tick, tick_up, with_end_changed, with_up}
+use Rattle.ba_scope.specs.Scope.{ScopeState, is_sealed, takes_no_more}
+use Rattle.ba_ends.specs.declared.ends.End.{End}
+use Rattle.ba_ends.specs.declared.parts.Part.{Part}
 use Rattle.ba_steps.specs.Fits.{NodeFits}
 use Rattle.ba_steps.specs.Node.{Among, HasPart, NodeState, with_scope}
 use Rattle.ba_steps.specs.Steps.{is_registering_state, same_end_state, same_part_state}

@@ -17,9 +17,10 @@ use Rattle.ba_message.specs.declared.endpoints.Epr.{Epr}
 use Rattle.ba_message.specs.declared.messages.Letter.{Letter}
 use Rattle.ba_message.specs.declared.messages.Message.TheVariants as message
 use Rattle.ba_message.proofs.FitTests.{endpoints_equal}
-use Rattle.ba_scope.specs.Scope.{ScopeState, end_of}
-use Rattle.ba_scope.specs.declared.ends.End.{End}
-use Rattle.ba_scope.specs.declared.parts.Part.{Part}
+use Rattle.ba_ends.specs.Ends.{end_of}
+use Rattle.ba_scope.specs.Scope.{ScopeState}
+use Rattle.ba_ends.specs.declared.ends.End.{End}
+use Rattle.ba_ends.specs.declared.parts.Part.{Part}
 use Rattle.ba_steps.specs.Addresses.{sender_of}
 use Rattle.ba_steps.specs.Node.{Among}
 use Rattle.ba_steps.proofs.Places.{first_is}

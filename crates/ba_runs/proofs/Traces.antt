@@ -4,9 +4,10 @@ use Rattle.std.proofs.Common.{◌≡◌, ◌⊎◌, inl, inr, ℕ, ◌≤◌, []
 use Rattle.ba_core.specs.declared.identifiers.Id.{Id}
 use Rattle.ba_core.specs.declared.notices.Notice.{Notice}
 use Rattle.ba_message.specs.declared.endpoints.Epr.{Epr}
-use Rattle.ba_scope.specs.Scope.{ScopeState, same_id}
-use Rattle.ba_scope.specs.declared.ends.End.{End}
-use Rattle.ba_scope.specs.declared.parts.Part.{Part}
+use Rattle.ba_ends.specs.Ends.{same_id}
+use Rattle.ba_scope.specs.Scope.{ScopeState}
+use Rattle.ba_ends.specs.declared.ends.End.{End}
+use Rattle.ba_ends.specs.declared.parts.Part.{Part}
 use Rattle.ba_steps.specs.Fits.{NodeFits}
 use Rattle.ba_steps.specs.Node.{Among, HasPart, NodeState, next_id, part_in_place_of, scope_in_place_of, with_lone, with_new_part, with_new_scope, with_scope}
 use Rattle.ba_steps.specs.declared.answers.Reply.{Reply}

@@ -11,7 +11,7 @@ use Rattle.ba_message.specs.declared.messages.Letter.{Letter}
 use Rattle.ba_message.specs.declared.messages.Message.{Message}
 use Rattle.ba_message.specs.declared.messages.Message.TheVariants as message
 use Rattle.ba_scope.specs.Scope.{ScopeState}
-use Rattle.ba_scope.specs.declared.parts.Part.{Part}
+use Rattle.ba_ends.specs.declared.parts.Part.{Part}
 use Rattle.ba_steps.specs.declared.inputs.Input.TheVariants as input
 use Rattle.ba_steps.specs.Fits.{NodeFits}
 use Rattle.ba_steps.specs.Node.{Among, NodeState}

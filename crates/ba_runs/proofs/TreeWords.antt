@@ -19,10 +19,12 @@ use Rattle.ba_link.proofs.Everywhere.{ends, only_if, part_passes, parts, protoco
 use Rattle.ba_message.specs.Endpoints.{same_epr}
 use Rattle.ba_message.specs.declared.endpoints.Epr.{Epr}
 use Rattle.ba_message.proofs.FitTests.{endpoint_itself, endpoints_equal}
-use Rattle.ba_scope.specs.Fits.{is_below_completed, part_fits, same_verdict, state_fits_above, up_fits}
-use Rattle.ba_scope.specs.Scope.{ScopeState, end_of, has_no_coordinator}
-use Rattle.ba_scope.specs.declared.ends.End.{End}
-use Rattle.ba_scope.specs.declared.parts.Part.{Part}
+use Rattle.ba_ends.specs.Parts.{part_fits, has_no_coordinator}
+use Rattle.ba_scope.specs.Fits.{is_below_completed, same_verdict, state_fits_above, up_fits}
+use Rattle.ba_ends.specs.Ends.{end_of}
+use Rattle.ba_scope.specs.Scope.{ScopeState}
+use Rattle.ba_ends.specs.declared.ends.End.{End}
+use Rattle.ba_ends.specs.declared.parts.Part.{Part}
 use Rattle.ba_steps.specs.Node.{Among}
 use Rattle.ba_steps.proofs.Places.{first_is}
 use Rattle.ba_runs.specs.Links.{HasEnd, IsLink, link_in, side_of}

@@ -28,11 +28,13 @@ use Rattle.ba_scope.proofs.Kept.{above_at, ends_below, verdict_below}
 use Rattle.ba_scope.proofs.Lists.{by_test}
 use Rattle.ba_scope.proofs.Tables.{above_passes, allows, each_handing_allows, end_passes, for_kinds, handing_allows, handings_allow, row_known, row_leads, rows_are_known, rows_lead}
 use Rattle.ba_scope.specs.Fits.{Above, ScopeFits, above, end_fits, same_verdict}
-use Rattle.ba_scope.specs.Rules.{ScopeStep, Tick, changed_at, choose, complete, decide, end_after_notice, end_after_row, end_asking, end_in_state, end_owing, end_with_verdict, end_with_verdict_if_any, end_with_verdict_if_none, enrolled_part, expire, finish, is_expired, is_past, leave_by, part_asking, part_at_tick, part_in_state, part_owing, refused_part, scope_with_end, tick_of_end, tick_of_part, tick_up, verdict_on_the_way, verdict_then, with_end_changed, with_up, with_up_moved}
-use Rattle.ba_scope.specs.Scope.{ScopeState, end_with_id, same_id}
+use Rattle.ba_ends.specs.Ends.{Tick, end_after_notice, end_after_row, end_asking, end_in_state, end_owing, end_with_verdict, end_with_verdict_if_none, tick_of_end, end_with_id, same_id}
+use Rattle.ba_ends.specs.Parts.{enrolled_part, part_asking, part_in_state, part_owing, refused_part, tick_of_part, verdict_on_the_way}
+use Rattle.ba_scope.specs.Rules.{ScopeStep, changed_at, choose, complete, decide, end_with_verdict_if_any, expire, finish, is_expired, is_past, leave_by, part_at_tick, scope_with_end, tick_up, verdict_then, with_end_changed, with_up, with_up_moved}
+use Rattle.ba_scope.specs.Scope.{ScopeState}
 use Rattle.ba_scope.specs.declared.answers.Said.{Said}
-use Rattle.ba_scope.specs.declared.ends.End.{End}
-use Rattle.ba_scope.specs.declared.parts.Part.{Part}
+use Rattle.ba_ends.specs.declared.ends.End.{End}
+use Rattle.ba_ends.specs.declared.parts.Part.{Part}
 use Rattle.ba_steps.specs.declared.inputs.Input.{Input}
 use Rattle.ba_steps.specs.declared.inputs.Input.TheVariants as input
 use Rattle.ba_steps.specs.Fits.{NodeFits}

@@ -12,9 +12,10 @@ use Rattle.ba_message.specs.Endpoints.{same_epr}
 use Rattle.ba_message.specs.declared.endpoints.Epr.{Epr}
 use Rattle.ba_message.specs.declared.messages.Message.{Message}
 use Rattle.ba_message.specs.declared.messages.Message.TheVariants as message
-use Rattle.ba_scope.specs.Scope.{ScopeState, end_of, takes_no_more}
-use Rattle.ba_scope.specs.declared.ends.End.{End}
-use Rattle.ba_scope.specs.declared.parts.Part.{Part}
+use Rattle.ba_ends.specs.Ends.{end_of}
+use Rattle.ba_scope.specs.Scope.{ScopeState, takes_no_more}
+use Rattle.ba_ends.specs.declared.ends.End.{End}
+use Rattle.ba_ends.specs.declared.parts.Part.{Part}
 use Rattle.ba_steps.specs.Addresses.{message_number, register_code, sender_of}
 use Rattle.ba_steps.specs.Node.{Among}
 use Rattle.ba_runs.specs.World.{Mail, Net, PartAt, ScopeAt, answer, letter, participant_at, registration_at}

@@ -8,7 +8,7 @@ use Rattle.ba_link.specs.States.{end_among}
 use Rattle.ba_record.specs.Coding.{InRange}
 use Rattle.ba_record.specs.declared.records.Record.TheVariants as journal
 use Rattle.ba_scope.specs.Scope.{ScopeState}
-use Rattle.ba_scope.specs.declared.ends.End.{End}
+use Rattle.ba_ends.specs.declared.ends.End.{End}
 use Rattle.ba_steps.specs.Node.{Among, new_node}
 use Rattle.ba_runs.specs.World.{ScopeAt, World, WorldNode, is_up, net_of}
 use Rattle.ba_runs.specs.WorldSteps.{WorldStep}

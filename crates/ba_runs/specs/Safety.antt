@@ -10,10 +10,11 @@ use Rattle.ba_link.specs.Fits.{LinkFits}
 use Rattle.ba_message.specs.declared.messages.Letter.{Letter}
 use Rattle.ba_message.specs.declared.messages.Message.{Message}
 use Rattle.ba_message.specs.declared.messages.Message.TheVariants as message
-use Rattle.ba_scope.specs.Fits.{ScopeFits, part_fits}
+use Rattle.ba_ends.specs.Parts.{part_fits}
+use Rattle.ba_scope.specs.Fits.{ScopeFits}
 use Rattle.ba_scope.specs.Scope.{ScopeState}
-use Rattle.ba_scope.specs.declared.ends.End.{End}
-use Rattle.ba_scope.specs.declared.parts.Part.{Part}
+use Rattle.ba_ends.specs.declared.ends.End.{End}
+use Rattle.ba_ends.specs.declared.parts.Part.{Part}
 use Rattle.ba_steps.specs.Addresses.{message_number, register_code, sender_of}
 use Rattle.ba_steps.specs.Fits.{NodeFits}
 use Rattle.ba_steps.specs.Lawful.{Replays}

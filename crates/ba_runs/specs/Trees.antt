@@ -6,8 +6,8 @@ use Rattle.ba_core.specs.declared.states.CState.{CState}
 use Rattle.ba_core.specs.declared.states.CState.TheVariants as end
 use Rattle.ba_link.specs.States.{end_among}
 use Rattle.ba_scope.specs.Scope.{ScopeState}
-use Rattle.ba_scope.specs.declared.ends.End.{End}
-use Rattle.ba_scope.specs.declared.parts.Part.{Part}
+use Rattle.ba_ends.specs.declared.ends.End.{End}
+use Rattle.ba_ends.specs.declared.parts.Part.{Part}
 use Rattle.ba_runs.specs.Links.{HasEnd}
 use Rattle.ba_runs.specs.World.{Net, ScopeAt, registration_at}
 

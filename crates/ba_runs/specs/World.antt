@@ -6,7 +6,7 @@ use Rattle.ba_message.specs.declared.messages.Letter.{Letter}
 use Rattle.ba_message.specs.declared.messages.Message.{Message}
 use Rattle.ba_record.specs.declared.records.Record.{Record}
 use Rattle.ba_scope.specs.Scope.{ScopeState}
-use Rattle.ba_scope.specs.declared.parts.Part.{Part}
+use Rattle.ba_ends.specs.declared.parts.Part.{Part}
 use Rattle.ba_steps.specs.Addresses.{coordinator_of, participant_of, registration_of}
 use Rattle.ba_steps.specs.Node.{Among, HasPart, NodeState}
 use Rattle.ba_steps.specs.declared.inputs.Input.{Input}

@@ -14,10 +14,11 @@ ghost use Rattle.ba_message.specs.declared.messages.Message.TheVariants as messa
 ghost use Rattle.ba_record.specs.Coding.{InRange};
 ghost use Rattle.ba_record.specs.declared.records.Record.{Record};
 ghost use Rattle.ba_record.specs.declared.records.Record.TheVariants as journal;
-ghost use Rattle.ba_scope.specs.Fits.{ScopeFits, is_below_completed, part_fits};
+ghost use Rattle.ba_ends.specs.Parts.{part_fits};
+ghost use Rattle.ba_scope.specs.Fits.{ScopeFits, is_below_completed};
 ghost use Rattle.ba_scope.specs.Scope.{ScopeState};
-ghost use Rattle.ba_scope.specs.declared.ends.End.{End};
-ghost use Rattle.ba_scope.specs.declared.parts.Part.{Part};
+ghost use Rattle.ba_ends.specs.declared.ends.End.{End};
+ghost use Rattle.ba_ends.specs.declared.parts.Part.{Part};
 ghost use Rattle.ba_steps.specs.Addresses.{message_number, sender_of};
 ghost use Rattle.ba_steps.specs.Fits.{HasSpareCounters, IsIdAt};
 ghost use Rattle.ba_steps.specs.Lawful.{Replays};

@@ -35,11 +35,13 @@ use Rattle.ba_message.specs.declared.endpoints.Epr.{Epr}
 use Rattle.ba_scope.specs.declared.answers.EnrolFault.TheVariants.{NotYetEnrolled, Sealed, Full}
 use Rattle.ba_scope.specs.declared.answers.Said.{Said}
 use Rattle.ba_scope.specs.declared.answers.TheConstants.{ALREADY_DECIDED, NOT_READY, NOT_A_ROOT, WRONG_KIND, NO_SUCH_END, NOT_A_CHILD, NOT_DRAINED, WRONG_STATE}
-use Rattle.ba_scope.specs.declared.ends.End.{End}
-use Rattle.ba_scope.specs.declared.parts.Part.{Part}
-use Rattle.ba_scope.specs.Fits.{Above, goes_with, end_fits, above, part_fits, are_apart, is_other_end, verdict_fits_above, verdict_goes, up_state, up_fits, ScopeFits}
-use Rattle.ba_scope.specs.Rules.{ScopeStep, Tick, refused_step, done_step, where_each_end, is_atomic, is_ready_for, scope_with_verdict, decide, choose, choose_for, complete, complete_for, end_with_verdict, end_with_verdict_if_none, end_in_state, changed_at, with_end_changed, expire, is_expired, is_past, enrol_refusal, new_end, scope_with_end, with_up, part_in_state, finish, finish_for, leave_by, leave_for, leave_act, may_leave, enrolled_part, refused_part, enrolled_scope, refused_scope, new_scope, end_receive, up_receive, tick_of_end, tick_end, tick_of_part, act_when_drained, state_after_act, state_at_tick, part_at_tick, tick_up, flag, is_enrolled_as, owe, ask, part_owing, part_asking, end_owing, end_asking}
-use Rattle.ba_scope.specs.Scope.{ScopeState, has_id, has_no_coordinator, is_own_id, same_id, end_with_id, end_of, first_failing, is_ready_state, is_ended_state, is_drained, any_failed, is_registering, is_at_work, is_sealed, is_full}
+use Rattle.ba_ends.specs.declared.ends.End.{End}
+use Rattle.ba_ends.specs.declared.parts.Part.{Part}
+use Rattle.ba_ends.specs.Parts.{part_fits, part_in_state, enrolled_part, refused_part, tick_of_part, act_when_drained, state_after_act, is_enrolled_as, part_owing, part_asking, has_no_coordinator, is_registering}
+use Rattle.ba_scope.specs.Fits.{Above, goes_with, end_fits, above, are_apart, is_other_end, verdict_fits_above, verdict_goes, up_state, up_fits, ScopeFits}
+use Rattle.ba_ends.specs.Ends.{Tick, is_ready_for, end_with_verdict, end_with_verdict_if_none, end_in_state, new_end, tick_of_end, end_owing, end_asking, same_id, end_with_id, end_of, first_failing, is_ready_state, is_ended_state}
+use Rattle.ba_scope.specs.Rules.{ScopeStep, refused_step, done_step, where_each_end, is_atomic, scope_with_verdict, decide, choose, choose_for, complete, complete_for, changed_at, with_end_changed, expire, is_expired, is_past, enrol_refusal, scope_with_end, with_up, finish, finish_for, leave_by, leave_for, leave_act, may_leave, enrolled_scope, refused_scope, new_scope, end_receive, up_receive, tick_end, state_at_tick, part_at_tick, tick_up, flag, owe, ask}
+use Rattle.ba_scope.specs.Scope.{ScopeState, has_id, is_own_id, is_drained, any_failed, is_at_work, is_sealed, is_full}
 use Rattle.ba_scope.proofs.Lists.{by_test, none_fails}
 use Rattle.ba_scope.proofs.Kept.{AllFit, KeepsWho, above_at, apart_kept, at_keeps, changed_fits, decided_fits, each_kept, ids_kept, end_received_fits, own_part_state, part_above, part_in_fits, same_up_fits, up_gone_fits, up_received_fits, verdict_below}
 use Rattle.ba_scope.proofs.Places.{moves, others_stay, stays}

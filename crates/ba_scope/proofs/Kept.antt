@@ -20,11 +20,13 @@ use Rattle.ba_core.specs.declared.states.PState.{PState}
 use Rattle.ba_link.specs.States.{part_among}
 use Rattle.ba_link.proofs.Everywhere.{only_if, where_asked, protocol_passes, parts, part_passes}
 use Rattle.ba_message.specs.declared.endpoints.Epr.{Epr}
-use Rattle.ba_scope.specs.declared.ends.End.{End}
-use Rattle.ba_scope.specs.declared.parts.Part.{Part}
-use Rattle.ba_scope.specs.Scope.{ScopeState, has_no_coordinator, is_id_above, is_own_id, same_id}
-use Rattle.ba_scope.specs.Rules.{scope_with_verdict, end_with_verdict, verdict_on_the_way, state_after_row, end_with_verdict_if_any, part_in_state, with_up_moved, with_up, end_after_row, changed_at, with_end_changed, is_ready_for, word_for}
-use Rattle.ba_scope.specs.Fits.{Above, goes_with, end_fits, above, part_fits, are_apart, are_ids_free, is_other_end, verdict_goes, up_state, up_fits, ScopeFits}
+use Rattle.ba_ends.specs.declared.ends.End.{End}
+use Rattle.ba_ends.specs.declared.parts.Part.{Part}
+use Rattle.ba_ends.specs.Parts.{has_no_coordinator, verdict_on_the_way, state_after_row, part_in_state, part_fits}
+use Rattle.ba_ends.specs.Ends.{same_id, end_with_verdict, end_after_row, is_ready_for}
+use Rattle.ba_scope.specs.Scope.{ScopeState, is_id_above, is_own_id}
+use Rattle.ba_scope.specs.Rules.{scope_with_verdict, end_with_verdict_if_any, with_up_moved, with_up, changed_at, with_end_changed, word_for}
+use Rattle.ba_scope.specs.Fits.{Above, goes_with, end_fits, above, are_apart, are_ids_free, is_other_end, verdict_goes, up_state, up_fits, ScopeFits}
 use Rattle.ba_scope.proofs.Lists.{by_test, word_is}
 use Rattle.ba_scope.proofs.Tables.{Test, at_ends, end_passes, above_passes, for_kinds, anywhere_above, receiving, told_above, undecided, row_keeps, each_notice_keeps, decision_keeps, rows_lead, row_leads, row_known, rows_are_known, moved_above, end_after_verdict, goes_pair, handing, handings, each_handing_keeps, up_goes, part_row_fits, part_rows_fit, each_part_row_fits, same_truth}
 

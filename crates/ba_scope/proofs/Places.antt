@@ -1,17 +1,17 @@
 -- A write at the place of an end is the change of the end with that Id, since no two ends have one Id.
-use Rattle.std.proofs.Common.{◌≡◌, ℕ, zero, suc, ◌<◌, Bool, true, false, not, List, [], ◌∷◌, map, length, Option, None, Some, IfNone, IfSome, nat_eq, nat_lt, position, slice_get, slice_set, refl, sym, ap, ◌∙◌, subst, arith, true≢false, if◌then◌else◌}
-use Rattle.std.specs.List.{find, list_all, position_or_len}
+use Rattle.std.proofs.Common.{◌≡◌, ℕ, zero, suc, true, not, List, [], ◌∷◌, map, Some, nat_eq, slice_get, slice_set, refl, sym, ap, ◌∙◌, subst, arith, true≢false}
+use Rattle.std.specs.List.{list_all}
 use Rattle.std.proofs.lemmas.Bool.{and_parts}
 use Rattle.std.proofs.lemmas.Bool.Decides.{nat_tests}
-use Rattle.std.proofs.lemmas.List.Folds.{find_at}
-use Rattle.std.proofs.lemmas.Option.{slice_get_past}
 use Rattle.ba_core.specs.declared.identifiers.Id.{Id}
+use Rattle.ba_ends.proofs.Places.{found_passes}
 use Rattle.ba_link.proofs.Everywhere.{at_place}
 use Rattle.ba_message.specs.Endpoints.{same_epr}
-use Rattle.ba_scope.specs.declared.ends.End.{End}
+use Rattle.ba_ends.specs.declared.ends.End.{End}
 use Rattle.ba_scope.specs.Fits.{are_apart, is_other_end}
 use Rattle.ba_scope.specs.Rules.{changed_at, with_end_changed}
-use Rattle.ba_scope.specs.Scope.{ScopeState, end_with_id, same_id}
+use Rattle.ba_ends.specs.Ends.{end_with_id, same_id}
+use Rattle.ba_scope.specs.Scope.{ScopeState}
 use Rattle.ba_scope.proofs.Lists.{by_test}
 
 -- a number that equals one equals no other
@@ -54,56 +54,6 @@ set_is_change id f (x ∷ es) (suc k) e apart at is =
     let here = stays id f x (λ same. not_this id x e same other is) in
     let rest = set_is_change id f es k e both.1 at is in
     λ i. here i ∷ rest i
-
--- what is found passes the test
-pub found_passes : {X : Type 0} (test : X → Bool) (xs : List X) (x : X) → find test xs ≡ Some x → test x ≡ true
-found_passes test [] x h = cc
-found_passes test (y ∷ ys) x h = by_head (test y) refl h (found_passes test ys x)
-  where
-    by_head : (b : Bool) → test y ≡ b → (if b then Some y else find test ys) ≡ Some x
-        → (find test ys ≡ Some x → test x ≡ true) → test x ≡ true
-    by_head true is k rest = let same : y ≡ x = cc in subst (λ z. test z ≡ true) same is
-    by_head false is k rest = rest k
-
--- ---- the place of an end by its Id
-
-placed : (b : Bool) (n k : ℕ) → (if b then Some n else None) ≡ Some k → (b ≡ true) × (n ≡ k)
-placed true n k h = let same : n ≡ k = cc in (refl, same)
-placed false n k h = cc
-
-not_placed : (b : Bool) (n : ℕ) → (if b then Some n else None) ≡ None → b ≡ false
-not_placed true n h = cc
-not_placed false n h = refl
-
-pub place_within : {X : Type 0} (test : X → Bool) (xs : List X) (k : ℕ) → position test xs ≡ Some k → k < length xs
-place_within test xs k h =
-    let both = placed (nat_lt (position_or_len test xs) (length xs)) (position_or_len test xs) k h in
-    let below = both.0 in
-    let same = both.1 in
-    grind (arith, nat_tests)
-
-pub place_found : {X : Type 0} (test : X → Bool) (xs : List X) (k : ℕ) → position test xs ≡ Some k → find test xs ≡ slice_get xs k
-place_found test xs k h =
-    let both = placed (nat_lt (position_or_len test xs) (length xs)) (position_or_len test xs) k h in
-    find_at test xs ∙ ap (slice_get xs) both.1
-
-pub none_found : {X : Type 0} (test : X → Bool) (xs : List X) → position test xs ≡ None → find test xs ≡ None
-none_found test xs h =
-    let past = not_placed (nat_lt (position_or_len test xs) (length xs)) (position_or_len test xs) h in
-    find_at test xs ∙ slice_get_past xs (position_or_len test xs) (grind (arith, nat_tests))
-
-pub within_if_some : {X : Type 0} (test : X → Bool) (xs : List X) (o : Option ℕ) → o ≡ position test xs → IfSome o (λ k. k < length xs)
-within_if_some test xs None h = tt
-within_if_some test xs (Some k) h = place_within test xs k (sym h)
-
-pub found_if_some : {X : Type 0} (test : X → Bool) (xs : List X) (o : Option ℕ) → o ≡ position test xs
-    → IfSome o (λ k. find test xs ≡ slice_get xs k)
-found_if_some test xs None h = tt
-found_if_some test xs (Some k) h = place_found test xs k (sym h)
-
-pub none_if_none : {X : Type 0} (test : X → Bool) (xs : List X) (o : Option ℕ) → o ≡ position test xs → IfNone o (find test xs ≡ None)
-none_if_none test xs None h = none_found test xs (sym h)
-none_if_none test xs (Some k) h = tt
 
 -- ---- a scope whose end at a place was changed
 

@@ -10,22 +10,21 @@ use Rattle.ba_core.specs.declared.notices.Act.{Act}
 use Rattle.ba_core.specs.declared.notices.Act.TheVariants as act
 use Rattle.ba_core.specs.declared.notices.Leave.{Leave}
 use Rattle.ba_core.specs.declared.protocols.Verdict.{Verdict}
-use Rattle.ba_core.specs.declared.rows.CRow.{CRow}
-use Rattle.ba_core.specs.declared.rows.CRow.TheVariants as crow
 use Rattle.ba_core.specs.declared.states.CState.{CState}
 use Rattle.ba_core.specs.declared.states.PState.{PState}
-use Rattle.ba_link.specs.Link.{settled_state}
 use Rattle.ba_scope.proofs.Lists.{by_test}
 use Rattle.ba_scope.proofs.Places.{moves, others_stay, stays}
 use Rattle.ba_scope.proofs.ScopeCases.{OfRefusal, choose_cases, complete_cases, decide_cases, finish_cases, leave_cases}
 use Rattle.ba_scope.specs.Fits.{are_apart, is_other_end}
-use Rattle.ba_scope.specs.Rules.{ScopeStep, changed_at, choose, complete, decide, done_step, end_after_row, end_in_state, end_with_verdict, expire, finish, is_expired, leave_act, leave_by, part_in_state, refused_step, scope_with_verdict, settled_row, state_after_act, with_end_changed, with_up}
-use Rattle.ba_scope.specs.Scope.{ScopeState, end_with_id, same_id}
+use Rattle.ba_ends.specs.Ends.{end_in_state, end_with_verdict, end_with_id, same_id, completing_end}
+use Rattle.ba_ends.specs.Parts.{part_in_state, state_after_act, acting_part}
+use Rattle.ba_scope.specs.Rules.{ScopeStep, changed_at, choose, complete, decide, done_step, expire, finish, is_expired, leave_act, leave_by, refused_step, scope_with_verdict, with_end_changed, with_up}
+use Rattle.ba_scope.specs.Scope.{ScopeState}
 use Rattle.ba_scope.specs.declared.answers.Said.{Said}
 use Rattle.ba_scope.specs.declared.answers.Said.TheVariants as said
-use Rattle.ba_scope.specs.declared.ends.End.{End}
-use Rattle.ba_scope.specs.declared.parts.Part.{Part}
-use Rattle.ba_scope.specs.inside.Moves.{acting_part, completing_end, expired_scope, with_up_acted}
+use Rattle.ba_ends.specs.declared.ends.End.{End}
+use Rattle.ba_ends.specs.declared.parts.Part.{Part}
+use Rattle.ba_scope.specs.inside.Moves.{expired_scope, with_up_acted}
 
 -- the answer tells the whole step: where it is Ok, it leads to this scope
 pub record Tested (s done : ScopeState) (step : ScopeStep Said) : Type 0 where
@@ -141,16 +140,3 @@ leave_tested s how =
     let done : ScopeState = with_up_acted (leave_act how) s in
     leave_cases (Tested s done) s how (refusals s done)
     (λ up next is may acts ended. done_to s done (with_up s (part_in_state next up)) (up_acts s (leave_act how) up next is acts))
-
--- ---- an end by its row
-
-pub row_after : (r : CRow) (e : End) (next : CState) (prompt : Bool) → crow.Row next prompt ≡ settled_row r e
-    → record e { state = next } ≡ end_after_row r e
-row_after crow.Invalid e next prompt is = cc
-row_after (crow.Row n p) e next prompt is =
-    let same : next ≡ settled_state e.protocol n e.verdict = cc in
-    λ i. record e { state = same i }
-
-pub invalid_after : (r : CRow) (e : End) → crow.Invalid ≡ settled_row r e → e ≡ end_after_row r e
-invalid_after crow.Invalid e is = refl
-invalid_after (crow.Row n p) e is = cc

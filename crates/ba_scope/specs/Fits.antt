@@ -1,8 +1,7 @@
 -- Believe: what holds of each scope, whatever was done to it.
-use Rattle.std.specs.Prelude.{◌≡◌, ◌≤◌, Bool, true, false, not, ◌&&◌, List, [], ◌∷◌, length, Option, None, Some, IsTrue, is_some, is_none, if◌then◌else◌}
+use Rattle.std.specs.Prelude.{◌≡◌, ◌≤◌, Bool, true, false, not, ◌&&◌, List, [], ◌∷◌, length, Option, None, Some, IsTrue}
 use Rattle.std.specs.List.{AllByRecursion, list_all}
 use Rattle.ba_core.specs.EndRows.{is_end_state}
-use Rattle.ba_core.specs.PartRows.{is_part_state}
 use Rattle.ba_core.specs.declared.protocols.Kind.{Kind}
 use Rattle.ba_core.specs.declared.protocols.Kind.TheVariants.{Atomic, Mixed}
 use Rattle.ba_core.specs.declared.protocols.Protocol.{Protocol}
@@ -17,10 +16,12 @@ use Rattle.ba_link.specs.Pairs.{is_close, is_undo, is_open, verdict_fits_state}
 use Rattle.ba_link.specs.States.{end_among}
 use Rattle.ba_message.specs.Endpoints.{same_epr}
 use Rattle.ba_scope.specs.Rules.{own_choice}
-use Rattle.ba_scope.specs.Scope.{ScopeState, same_id, is_own_id, is_ended_state, has_no_coordinator}
+use Rattle.ba_ends.specs.Ends.{same_id, is_ended_state}
+use Rattle.ba_ends.specs.Parts.{part_fits}
+use Rattle.ba_scope.specs.Scope.{ScopeState, is_own_id}
 use Rattle.ba_scope.specs.declared.answers.TheConstants.{MOST_ENDS}
-use Rattle.ba_scope.specs.declared.ends.End.{End}
-use Rattle.ba_scope.specs.declared.parts.Part.{Part}
+use Rattle.ba_ends.specs.declared.ends.End.{End}
+use Rattle.ba_ends.specs.declared.parts.Part.{Part}
 
 -- what an end sees of its scope: the state of the upward part, the scope's kind and verdict
 pub record Above : Type 0 where
@@ -97,22 +98,12 @@ goes_with a protocol s v choice =
 abbrev pub end_fits : Above → End → Bool
 end_fits a e = goes_with a e.protocol e.state e.verdict (own_choice e)
 
--- the end's state is one of its protocol
-abbrev pub has_own_state : End → Bool
-has_own_state e = is_end_state e.protocol e.state
-
 abbrev pub up_state : Option Part → Option PState
 up_state None = None
 up_state (Some p) = Some p.state
 
 abbrev pub above : ScopeState → Above
 above s = record { up = up_state s.up; kind = s.kind; verdict = s.verdict }
-
--- the state is one of the protocol, and a participant keeps a coordinator exactly where it was enrolled
-abbrev pub part_fits : Part → Bool
-part_fits p =
-    is_part_state p.protocol p.state
-    && (if has_no_coordinator p.state then is_none p.coordinator else is_some p.coordinator)
 
 abbrev pub up_fits : Option Part → Bool
 up_fits None = true

@@ -2,16 +2,14 @@
 -- of a call stand in their order.
 use Rattle.std.specs.Prelude.{ℕ, Bool, true, false, not, ◌&&◌, ◌||◌, [], ◌∷◌, ◌++◌, map, nat_le, Option, None, Some, is_some, is_none, unwrap_or, if◌then◌else◌}
 use Rattle.std.specs.Option.{option_map}
-use Rattle.ba_core.specs.EndRows.{end_row, end_tick, chosen_state, completed_state}
-use Rattle.ba_core.specs.Messages.{end_name, part_name}
-use Rattle.ba_core.specs.PartRows.{part_row, part_says, acted_state}
+use Rattle.ba_core.specs.EndRows.{end_row, chosen_state, completed_state}
+use Rattle.ba_core.specs.PartRows.{part_row, acted_state}
 use Rattle.ba_core.specs.declared.identifiers.Id.{Id}
 use Rattle.ba_core.specs.declared.notices.Act.{Act}
 use Rattle.ba_core.specs.declared.notices.Act.TheVariants as act
 use Rattle.ba_core.specs.declared.notices.Leave.{Leave}
 use Rattle.ba_core.specs.declared.notices.Leave.TheVariants as leave
 use Rattle.ba_core.specs.declared.notices.Notice.{Notice}
-use Rattle.ba_core.specs.declared.notices.Notice.TheVariants as notice
 use Rattle.ba_core.specs.declared.protocols.Kind.{Kind}
 use Rattle.ba_core.specs.declared.protocols.Kind.TheVariants.{Atomic, Mixed}
 use Rattle.ba_core.specs.declared.protocols.Protocol.{Protocol}
@@ -21,33 +19,27 @@ use Rattle.ba_core.specs.declared.rows.CRow.{CRow}
 use Rattle.ba_core.specs.declared.rows.CRow.TheVariants as crow
 use Rattle.ba_core.specs.declared.rows.PRow.{PRow}
 use Rattle.ba_core.specs.declared.rows.PRow.TheVariants as prow
-use Rattle.ba_core.specs.declared.states.How.TheVariants.{Refused}
 use Rattle.ba_core.specs.declared.states.CState.{CState}
-use Rattle.ba_core.specs.declared.states.CState.TheVariants as end
 use Rattle.ba_core.specs.declared.states.PState.{PState}
 use Rattle.ba_core.specs.declared.states.PState.TheVariants as part
-use Rattle.ba_link.specs.Link.{settled_state}
 use Rattle.ba_link.specs.States.{part_among}
 use Rattle.ba_message.specs.declared.endpoints.Epr.{Epr}
-use Rattle.ba_scope.specs.Scope.{ScopeState, same_id, end_with_id, has_no_coordinator, first_failing, is_ready_state, is_ended_state, is_drained, any_failed, is_registering, is_sealed, is_full}
+use Rattle.ba_ends.specs.Ends.{same_id, end_with_id, first_failing, is_ready_state, is_ended_state, Tick, end_with_verdict, end_with_verdict_if_none, is_ready_for, end_in_state, settled_row, end_after_notice, tick_of_end, end_owing, end_asking, new_end}
+use Rattle.ba_ends.specs.Parts.{is_registering, part_in_state, verdict_on_the_way, state_after_row, tick_of_part, act_when_drained, state_after_act, part_owing, part_asking, is_enrolled_as, enrolled_part, refused_part}
+use Rattle.ba_scope.specs.Scope.{ScopeState, is_drained, any_failed, is_sealed, is_full}
 use Rattle.ba_scope.specs.declared.answers.Drained.{Drained}
 use Rattle.ba_scope.specs.declared.answers.EnrolFault.{EnrolFault}
 use Rattle.ba_scope.specs.declared.answers.EnrolFault.TheVariants.{NotYetEnrolled, Sealed, Full}
 use Rattle.ba_scope.specs.declared.answers.Said.{Said}
 use Rattle.ba_scope.specs.declared.answers.Said.TheVariants as said
 use Rattle.ba_scope.specs.declared.answers.TheConstants.{ALREADY_DECIDED, NOT_READY, NOT_A_ROOT, WRONG_KIND, NO_SUCH_END, NOT_A_CHILD, NOT_DRAINED, WRONG_STATE, MOST_ENDS}
-use Rattle.ba_scope.specs.declared.ends.End.{End}
-use Rattle.ba_scope.specs.declared.parts.Part.{Part}
+use Rattle.ba_ends.specs.declared.ends.End.{End}
+use Rattle.ba_ends.specs.declared.parts.Part.{Part}
 
 -- what a call answers, and the scope after it
 pub record ScopeStep (A : Type 0) : Type 0 where
   pub after : ScopeState
   pub answer : A
-
--- what a tick makes of an object, and the notice that it sends
-pub record Tick (A : Type 0) : Type 0 where
-  pub after : A
-  pub says : Option Notice
 
 -- a refusal by its number, and the object that shows it: the scope stays
 abbrev pub refused_step : ScopeState → ℕ → Id → ScopeStep Said
@@ -80,14 +72,6 @@ abbrev pub word_for : Verdict → End → Verdict
 word_for Undo e = Undo
 word_for Close e = unwrap_or (own_choice e) Close
 
--- the end with a verdict set on it: it keeps the verdict, and moves where its state lets it
-abbrev pub end_with_verdict : Verdict → End → End
-end_with_verdict v e = record e { state = unwrap_or (chosen_state e.protocol e.state v) e.state; verdict = Some v }
-
--- the same, where the end has none
-abbrev pub end_with_verdict_if_none : Verdict → End → End
-end_with_verdict_if_none v e = if is_none e.verdict then end_with_verdict v e else e
-
 -- the scope with a verdict set on it and on each of its ends
 abbrev pub scope_with_verdict : Verdict → ScopeState → ScopeState
 scope_with_verdict v s = record s { verdict = Some v; ends = map (λ e. end_with_verdict (word_for v e) e) s.ends }
@@ -95,11 +79,6 @@ scope_with_verdict v s = record s { verdict = Some v; ends = map (λ e. end_with
 abbrev pub is_atomic : Kind → Bool
 is_atomic Atomic = true
 is_atomic Mixed = false
-
--- an end in this state is no hindrance to a verdict on its scope
-abbrev pub is_ready_for : Verdict → CState → Bool
-is_ready_for Close s = is_ready_state s
-is_ready_for Undo s = true
 
 abbrev pub decide : ScopeState → Verdict → ScopeStep Said
 decide s v =
@@ -123,9 +102,6 @@ choose s id v =
           else if is_some e.verdict then refused_step s ALREADY_DECIDED id
           else choose_for s id v (chosen_state e.protocol e.state v)
     ]
-
-abbrev pub end_in_state : CState → End → End
-end_in_state next e = record e { state = next }
 
 -- the end's participant asked to complete, where its state lets it
 abbrev pub complete_for : ScopeState → Id → Option CState → ScopeStep Said
@@ -171,10 +147,6 @@ enrol_refusal s =
     else if is_full s then Some Full
     else None
 
-abbrev pub new_end : Id → Protocol → Epr → End
-new_end id protocol participant =
-    record { id = id; protocol = protocol; participant = participant; state = end.Active; verdict = None; owes = false; asks = false }
-
 -- the scope with a new end after its others
 abbrev pub scope_with_end : ScopeState → Id → Protocol → Epr → ScopeState
 scope_with_end s id protocol participant = record s { ends = s.ends ++ new_end id protocol participant ∷ [] }
@@ -183,9 +155,6 @@ scope_with_end s id protocol participant = record s { ends = s.ends ++ new_end i
 
 abbrev pub with_up : ScopeState → Part → ScopeState
 with_up s up = record s { up = Some up }
-
-abbrev pub part_in_state : PState → Part → Part
-part_in_state next p = record p { state = next }
 
 -- the upward part's work is done, where each end is ready
 abbrev pub finish_for : ScopeState → Part → Option PState → ScopeStep Said
@@ -222,13 +191,6 @@ leave_by s how =
           else refused_step s WRONG_STATE s.id
     ]
 
--- the verdict that an upward part's new state hands to its scope
-abbrev pub verdict_for_ends : PState → Option Verdict
-verdict_for_ends part.Closing = Some Close
-verdict_for_ends part.Canceling = Some Undo
-verdict_for_ends part.Compensating = Some Undo
-verdict_for_ends p = None
-
 -- the verdict that is there afterwards: the new one, where there is one
 abbrev pub verdict_then : Option Verdict → Option Verdict → Option Verdict
 verdict_then None before = before
@@ -242,15 +204,6 @@ end_with_verdict_if_any (Some v) e = end_with_verdict (word_for v e) e
 -- the scope with a verdict set on it and on each of its ends, where there is one
 abbrev pub scope_with_verdict_if_any : Option Verdict → ScopeState → ScopeState
 scope_with_verdict_if_any v s = record s { verdict = verdict_then v s.verdict; ends = map (end_with_verdict_if_any v) s.ends }
-
--- the verdict that comes from above as the upward part goes from one state to the next: none where it stays
-abbrev pub verdict_on_the_way : PState → PState → Option Verdict
-verdict_on_the_way before next = if part_among (before ∷ []) next then None else verdict_for_ends next
-
--- the upward part's state after a row
-abbrev pub state_after_row : PState → PRow → PState
-state_after_row before prow.Invalid = before
-state_after_row before (prow.Row next prompt) = next
 
 -- the scope after its upward part has gone to the next state
 abbrev pub with_up_moved : ScopeState → Part → PState → ScopeState
@@ -267,33 +220,12 @@ up_receive s n =
 
 -- ---- an end receives and ticks
 
--- the end after a row, settled by its verdict
-abbrev pub end_after_row : CRow → End → End
-end_after_row crow.Invalid e = e
-end_after_row (crow.Row next prompt) e = record e { state = settled_state e.protocol next e.verdict }
-
--- the row as it stands for the end, once the end has settled
-abbrev pub settled_row : CRow → End → CRow
-settled_row crow.Invalid e = crow.Invalid
-settled_row (crow.Row next prompt) e = crow.Row (settled_state e.protocol next e.verdict) prompt
-
--- the end after a notice
-abbrev pub end_after_notice : Notice → End → End
-end_after_notice n e = end_after_row (end_row e.protocol e.state n) e
-
 abbrev pub end_receive : ScopeState → Id → Notice → ScopeStep CRow
 end_receive s id n =
     elim (end_with_id s.ends id) [
       | None ↦ record { after = s; answer = crow.Invalid }
       | Some e ↦ record { after = with_end_changed id (end_after_notice n) s; answer = settled_row (end_row e.protocol e.state n) e }
     ]
-
--- the tick of an end: its Status where it owes one, GetStatus where it asks, else what its state lets it say
-abbrev pub tick_of_end : End → Tick End
-tick_of_end e =
-    if e.owes then record { after = record e { owes = false }; says = Some (notice.Status (end_name e.state)) }
-    else if e.asks then record { after = record e { asks = false }; says = Some notice.GetStatus }
-    else record { after = end_in_state (end_tick e.state).0 e; says = (end_tick e.state).1 }
 
 abbrev pub tick_end : ScopeState → Id → Tick ScopeState
 tick_end s id =
@@ -303,25 +235,6 @@ tick_end s id =
     ]
 
 -- ---- a participant ticks
-
--- the tick of a participant, likewise
-abbrev pub tick_of_part : Part → Tick Part
-tick_of_part p =
-    if p.owes then record { after = record p { owes = false }; says = Some (notice.Status (part_name p.state)) }
-    else if p.asks then record { after = record p { asks = false }; says = Some notice.GetStatus }
-    else record { after = p; says = part_says p.state }
-
--- what a drained scope came to, as an act of its upward part
-abbrev pub act_when_drained : PState → Bool → Option Act
-act_when_drained part.Closing failed = Some act.Closed
-act_when_drained part.Canceling failed = Some (if failed then act.Fail else act.Canceled)
-act_when_drained part.Compensating failed = Some (if failed then act.Fail else act.Compensated)
-act_when_drained p failed = None
-
--- the state that an act leads to, where there is an act
-abbrev pub state_after_act : Protocol → PState → Option Act → PState
-state_after_act protocol p None = p
-state_after_act protocol p (Some a) = unwrap_or (acted_state protocol p a) p
 
 -- the upward part's state when it ticks: it acts once the scope is drained
 abbrev pub state_at_tick : ScopeState → Part → PState
@@ -342,22 +255,6 @@ tick_up s =
     ]
 
 -- ---- an object owes its Status, or asks for the other side's
-
-abbrev pub end_owing : End → End
-end_owing e = record e { owes = true }
-
-abbrev pub end_asking : End → End
-end_asking e = record e { asks = true }
-
-abbrev pub part_owing : Part → Part
-part_owing p = record p { owes = true }
-
-abbrev pub part_asking : Part → Part
-part_asking p = record p { asks = true }
-
--- the upward part has this Id and a coordinator, to which it may owe its Status or whose Status it may ask for
-abbrev pub is_enrolled_as : Id → Part → Bool
-is_enrolled_as id up = same_id up.id id && not (has_no_coordinator up.state)
 
 -- The scope with a flag set on its end of this Id, else on its upward part, where that is enrolled and has this Id; true
 -- where it wasn't set before. Else the scope stays, and it is false.
@@ -380,14 +277,6 @@ abbrev pub ask : ScopeState → Id → ScopeStep Bool
 ask s id = flag s id (λ p. p.asks) part_asking (λ e. e.asks) end_asking
 
 -- ---- registering
-
--- the participant enrolled, with the coordinator's endpoint
-abbrev pub enrolled_part : Epr → Part → Part
-enrolled_part coordinator p = record p { state = part.Active; coordinator = Some coordinator }
-
--- the participant refused for good
-abbrev pub refused_part : Part → Part
-refused_part p = record p { state = part.Ended Refused }
 
 -- the scope whose own participant was enrolled, or refused for good
 abbrev pub enrolled_scope : Epr → ScopeState → ScopeState

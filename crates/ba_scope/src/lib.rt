@@ -3,19 +3,13 @@
 #![tactic(auto)]
 
 mod answers;
-mod ends;
 mod fields;
 mod laws;
-mod parts;
-mod rooms;
 mod scopes;
 
 pub use answers::{
     ALREADY_DECIDED, Drained, EnrolFault, MOST_ENDS, NO_SUCH_END, NOT_A_CHILD, NOT_A_ROOT,
     NOT_DRAINED, NOT_READY, Said, WRONG_KIND, WRONG_STATE,
 };
-pub use ends::{End, is_ended};
 pub use laws::what_is_sealed_stays_sealed;
-pub use parts::{Part, verdict_from_above};
-pub use rooms::Room;
 pub use scopes::Scope;

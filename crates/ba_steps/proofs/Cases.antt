@@ -27,15 +27,17 @@ use Rattle.ba_message.specs.declared.messages.Letter.{Letter}
 use Rattle.ba_record.specs.declared.records.Record.{Record}
 use Rattle.ba_record.specs.declared.records.Record.TheVariants as journal
 use Rattle.ba_scope.proofs.Lists.{by_test, not_true}
-use Rattle.ba_scope.specs.Rules.{ScopeStep, choose, complete, decide, end_after_notice, end_after_row, end_asking, end_owing, enrol_refusal, enrolled_part, expire, finish, leave_act, leave_by, part_asking, part_in_state, part_owing, refused_part, state_at_tick, tick_of_end, tick_of_part, tick_up, with_end_changed, with_up_moved}
-use Rattle.ba_scope.specs.Scope.{ScopeState, end_of, has_no_coordinator, is_full, is_registering, is_sealed, takes_no_more}
+use Rattle.ba_ends.specs.Ends.{end_after_notice, end_after_row, end_asking, end_owing, tick_of_end, end_of}
+use Rattle.ba_ends.specs.Parts.{enrolled_part, part_asking, part_in_state, part_owing, refused_part, tick_of_part, has_no_coordinator, is_registering}
+use Rattle.ba_scope.specs.Rules.{ScopeStep, choose, complete, decide, enrol_refusal, expire, finish, leave_act, leave_by, state_at_tick, tick_up, with_end_changed, with_up_moved}
+use Rattle.ba_scope.specs.Scope.{ScopeState, is_full, is_sealed, takes_no_more}
 use Rattle.ba_scope.specs.declared.answers.EnrolFault.{EnrolFault}
 use Rattle.ba_scope.specs.declared.answers.EnrolFault.TheVariants.{NotYetEnrolled, Sealed, Full}
 use Rattle.ba_scope.specs.declared.answers.Said.{Said}
 use Rattle.ba_scope.specs.declared.answers.Said.TheVariants as said
 use Rattle.ba_scope.specs.declared.answers.TheConstants.{NO_SUCH_END, NOT_A_CHILD, WRONG_STATE}
-use Rattle.ba_scope.specs.declared.ends.End.{End}
-use Rattle.ba_scope.specs.declared.parts.Part.{Part}
+use Rattle.ba_ends.specs.declared.ends.End.{End}
+use Rattle.ba_ends.specs.declared.parts.Part.{Part}
 use Rattle.ba_steps.specs.declared.answers.Reply.{Reply}
 use Rattle.ba_steps.specs.declared.answers.Reply.TheVariants as reply
 use Rattle.ba_steps.specs.declared.answers.TheConstants.{BAD_ADDRESS, CHILD_PART, NO_SUCH_PART, NO_SUCH_SCOPE}

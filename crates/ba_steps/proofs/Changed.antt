@@ -28,12 +28,14 @@ use Rattle.ba_record.specs.declared.records.Record.{Record}
 use Rattle.ba_scope.proofs.Calls.{led, ticked_part}
 use Rattle.ba_scope.proofs.Lists.{some_branch}
 use Rattle.ba_scope.proofs.Tables.{if_leads}
-use Rattle.ba_scope.specs.Rules.{ScopeStep, Tick, changed_at, choose, complete, decide, end_after_notice, end_after_row, end_asking, end_in_state, end_owing, end_with_verdict, end_with_verdict_if_none, enrolled_part, expire, finish, is_expired, leave_act, leave_by, part_asking, part_at_tick, part_in_state, part_owing, refused_part, scope_with_end, state_at_tick, tick_of_end, tick_of_part, tick_up, with_end_changed, with_up, with_up_moved}
-use Rattle.ba_scope.specs.Scope.{ScopeState, same_id}
+use Rattle.ba_ends.specs.Ends.{Tick, end_after_notice, end_after_row, end_asking, end_in_state, end_owing, end_with_verdict, end_with_verdict_if_none, tick_of_end, same_id}
+use Rattle.ba_ends.specs.Parts.{enrolled_part, part_asking, part_in_state, part_owing, refused_part, tick_of_part}
+use Rattle.ba_scope.specs.Rules.{ScopeStep, changed_at, choose, complete, decide, expire, finish, is_expired, leave_act, leave_by, part_at_tick, scope_with_end, state_at_tick, tick_up, with_end_changed, with_up, with_up_moved}
+use Rattle.ba_scope.specs.Scope.{ScopeState}
 use Rattle.ba_scope.specs.declared.answers.Said.{Said}
 use Rattle.ba_scope.specs.declared.answers.Said.TheVariants as said
-use Rattle.ba_scope.specs.declared.ends.End.{End}
-use Rattle.ba_scope.specs.declared.parts.Part.{Part}
+use Rattle.ba_ends.specs.declared.ends.End.{End}
+use Rattle.ba_ends.specs.declared.parts.Part.{Part}
 use Rattle.ba_steps.specs.declared.inputs.Input.{Input}
 use Rattle.ba_steps.specs.declared.inputs.Input.TheVariants as input
 use Rattle.ba_steps.specs.Lawful.{Event, given, ticked, change}

@@ -27,7 +27,7 @@ use Rattle.ba_record.specs.declared.records.Record.TheVariants as journal
 use Rattle.ba_scope.proofs.Lists.{by_test}
 use Rattle.ba_scope.specs.Rules.{leave_act}
 use Rattle.ba_scope.specs.Scope.{ScopeState}
-use Rattle.ba_scope.specs.declared.parts.Part.{Part}
+use Rattle.ba_ends.specs.declared.parts.Part.{Part}
 use Rattle.ba_steps.specs.declared.inputs.Input.TheVariants as input
 use Rattle.ba_steps.specs.Fits.{IsIdAt, NodeFits}
 use Rattle.ba_steps.specs.Lawful.{Event, given, ticked, IsStepOf, act_event, after_record, change, chosen_event, create_event, current_context, enacted_again, is_next, last_moment, notice_event, refused_event}

@@ -11,10 +11,12 @@ use Rattle.ba_message.specs.declared.endpoints.Epr.{Epr}
 use Rattle.ba_message.specs.declared.messages.Context.{Context}
 use Rattle.ba_scope.proofs.Calls.{ticked_part}
 use Rattle.ba_scope.proofs.Lists.{by_test}
-use Rattle.ba_scope.specs.Rules.{end_after_notice, end_asking, end_owing, enrolled_part, new_end, new_scope, part_asking, part_in_state, part_owing, refused_part, scope_with_end, tick_of_end, tick_of_part, with_up, with_up_moved}
-use Rattle.ba_scope.specs.Scope.{ScopeState, same_id}
-use Rattle.ba_scope.specs.declared.ends.End.{End}
-use Rattle.ba_scope.specs.declared.parts.Part.{Part}
+use Rattle.ba_ends.specs.Ends.{end_after_notice, end_asking, end_owing, new_end, tick_of_end, same_id}
+use Rattle.ba_ends.specs.Parts.{enrolled_part, part_asking, part_in_state, part_owing, refused_part, tick_of_part}
+use Rattle.ba_scope.specs.Rules.{new_scope, scope_with_end, with_up, with_up_moved}
+use Rattle.ba_scope.specs.Scope.{ScopeState}
+use Rattle.ba_ends.specs.declared.ends.End.{End}
+use Rattle.ba_ends.specs.declared.parts.Part.{Part}
 use Rattle.ba_steps.specs.declared.inputs.Input.{Input}
 use Rattle.ba_steps.specs.declared.inputs.Input.TheVariants as input
 use Rattle.ba_steps.specs.Endpoints.{AllReachable, GivesFit, IsReachable, input_endpoints, part_endpoints, scope_endpoints}

@@ -23,7 +23,7 @@ use Rattle.ba_message.specs.declared.messages.Context.{Context}
 use Rattle.ba_record.specs.Coding.{InRange, IsCounter, IsFrom1}
 use Rattle.ba_record.specs.declared.records.Record.{Record}
 use Rattle.ba_scope.specs.Scope.{ScopeState}
-use Rattle.ba_scope.specs.declared.parts.Part.{Part}
+use Rattle.ba_ends.specs.declared.parts.Part.{Part}
 use Rattle.ba_steps.specs.declared.inputs.Input.{Input}
 use Rattle.ba_steps.specs.declared.inputs.Input.TheVariants as input
 use Rattle.ba_steps.specs.Endpoints.{GivesFit, input_endpoints}

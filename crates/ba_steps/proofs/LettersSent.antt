@@ -8,10 +8,12 @@ use Rattle.ba_message.specs.declared.endpoints.Epr.{Epr}
 use Rattle.ba_message.specs.declared.messages.Letter.{Letter}
 use Rattle.ba_scope.proofs.Calls.{by_option}
 use Rattle.ba_scope.proofs.Lists.{by_test}
-use Rattle.ba_scope.specs.Rules.{expire, tick_of_end, tick_of_part, tick_up, Tick, end_in_state, part_at_tick}
+use Rattle.ba_ends.specs.Ends.{tick_of_end, Tick, end_in_state}
+use Rattle.ba_ends.specs.Parts.{tick_of_part}
+use Rattle.ba_scope.specs.Rules.{expire, tick_up, part_at_tick}
 use Rattle.ba_scope.specs.Scope.{ScopeState}
-use Rattle.ba_scope.specs.declared.ends.End.{End}
-use Rattle.ba_scope.specs.declared.parts.Part.{Part}
+use Rattle.ba_ends.specs.declared.ends.End.{End}
+use Rattle.ba_ends.specs.declared.parts.Part.{Part}
 use Rattle.ba_steps.specs.Endpoints.{AllReachable, IsReachable, part_endpoints}
 use Rattle.ba_steps.specs.Node.{EndPlace, NodeState, PartPlace, end_place, part_place, scope_with_id}
 use Rattle.ba_steps.specs.Steps.{if_found, is_registering_state}

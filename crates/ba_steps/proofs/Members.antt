@@ -3,7 +3,7 @@ use Rattle.std.proofs.Common.{◌≡◌, inl, inr, ℕ, ◌+◌, ◌≤◌, Bool
 use Rattle.std.specs.List.{AllByRecursion, IsDistinct}
 use Rattle.std.proofs.lemmas.Bool.Decides.{nat_tests}
 use Rattle.ba_core.specs.declared.identifiers.Id.{Id}
-use Rattle.ba_scope.specs.Scope.{same_id}
+use Rattle.ba_ends.specs.Ends.{same_id}
 use Rattle.ba_steps.specs.Node.{Among}
 use Rattle.ba_tree.specs.Trees.{joined, greatest}
 

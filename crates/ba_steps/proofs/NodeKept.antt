@@ -7,10 +7,12 @@ use Rattle.ba_core.specs.Numbers.{id_of, counter_of}
 use Rattle.ba_core.specs.declared.identifiers.Id.{Id}
 use Rattle.ba_record.specs.Coding.{IsCounter, IsDeadline}
 use Rattle.ba_scope.proofs.Lists.{by_test}
-use Rattle.ba_scope.specs.Fits.{ScopeFits, part_fits}
-use Rattle.ba_scope.specs.Scope.{ScopeState, same_id}
-use Rattle.ba_scope.specs.declared.ends.End.{End}
-use Rattle.ba_scope.specs.declared.parts.Part.{Part}
+use Rattle.ba_ends.specs.Parts.{part_fits}
+use Rattle.ba_scope.specs.Fits.{ScopeFits}
+use Rattle.ba_ends.specs.Ends.{same_id}
+use Rattle.ba_scope.specs.Scope.{ScopeState}
+use Rattle.ba_ends.specs.declared.ends.End.{End}
+use Rattle.ba_ends.specs.declared.parts.Part.{Part}
 use Rattle.ba_steps.specs.Fits.{HasSpareCounters, IsIdAt, NodeFits}
 use Rattle.ba_steps.specs.Node.{Among, NodeState, counter, ids, last, next_id, part_in_place_of, scope_ids, scope_in_place_of, with_lone, with_new_part, with_new_scope, with_scope}
 use Rattle.ba_steps.proofs.Members.{Inserts, all_among, all_append, among_all, among_joined, among_map, apart_across, apart_left, apart_right, id_by_number, inserts_all, inserts_apart, inserts_greatest, inserts_length, is_other, other_by_number, same_by_number}

@@ -3,10 +3,12 @@ use Rattle.std.proofs.Common.{◌≡◌, inl, inr, List, [], ◌∷◌, ◌++◌
 use Rattle.std.specs.List.{IsDistinct}
 use Rattle.std.specs.Option.{option_to_list}
 use Rattle.ba_core.specs.declared.identifiers.Id.{Id}
-use Rattle.ba_scope.specs.Fits.{ScopeFits, part_fits}
-use Rattle.ba_scope.specs.Scope.{ScopeState, same_id}
-use Rattle.ba_scope.specs.declared.ends.End.{End}
-use Rattle.ba_scope.specs.declared.parts.Part.{Part}
+use Rattle.ba_ends.specs.Parts.{part_fits}
+use Rattle.ba_scope.specs.Fits.{ScopeFits}
+use Rattle.ba_ends.specs.Ends.{same_id}
+use Rattle.ba_scope.specs.Scope.{ScopeState}
+use Rattle.ba_ends.specs.declared.ends.End.{End}
+use Rattle.ba_ends.specs.declared.parts.Part.{Part}
 use Rattle.ba_steps.specs.Fits.{IsIdAt, NodeFits}
 use Rattle.ba_steps.specs.Node.{Among, HasPart, NodeState, ids, scope_ids}
 use Rattle.ba_steps.proofs.Members.{all_among, among_joined, among_left, among_map, among_right, apart_across, apart_left, apart_right, one_item, one_owner}

@@ -27,7 +27,7 @@ use Rattle.ba_record.specs.declared.records.Record.TheVariants as journal
 use Rattle.ba_scope.proofs.Lists.{false_branch}
 use Rattle.ba_scope.specs.Rules.{ScopeStep, expire, is_expired, is_past, leave_act, new_scope}
 use Rattle.ba_scope.specs.Scope.{ScopeState}
-use Rattle.ba_scope.specs.declared.parts.Part.{Part}
+use Rattle.ba_ends.specs.declared.parts.Part.{Part}
 use Rattle.ba_steps.specs.declared.answers.Wake.TheVariants as wake
 use Rattle.ba_steps.specs.declared.inputs.Input.{Input}
 use Rattle.ba_steps.specs.declared.inputs.Input.TheVariants as input

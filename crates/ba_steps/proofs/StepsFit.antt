@@ -21,11 +21,13 @@ use Rattle.ba_scope.proofs.Calls.{choose_fits, complete_fits, decide_fits, enrol
 use Rattle.ba_scope.proofs.Kept.{changed_fits, end_received_fits, own_part_state, part_above, part_in_fits, same_up_fits, up_received_fits}
 use Rattle.ba_scope.proofs.Lists.{some_branch}
 use Rattle.ba_scope.proofs.Tables.{acts_fit, each_act_fits, each_part_row_fits, if_leads, part_row_fits, part_rows_fit, same_truth}
-use Rattle.ba_scope.specs.Fits.{ScopeFits, part_fits}
-use Rattle.ba_scope.specs.Rules.{Tick, choose, complete, decide, end_after_notice, end_asking, end_owing, enrolled_part, expire, finish, leave_by, new_end, new_scope, part_asking, part_in_state, part_owing, refused_part, scope_with_end, state_after_row, tick_end, tick_of_end, tick_of_part, tick_up, with_end_changed, with_up, with_up_moved}
-use Rattle.ba_scope.specs.Scope.{ScopeState, end_with_id, has_id, has_no_coordinator, is_id_above, is_own_id, is_registering, same_id}
-use Rattle.ba_scope.specs.declared.ends.End.{End}
-use Rattle.ba_scope.specs.declared.parts.Part.{Part}
+use Rattle.ba_ends.specs.Parts.{part_fits, enrolled_part, part_asking, part_in_state, part_owing, refused_part, state_after_row, tick_of_part, has_no_coordinator, is_registering}
+use Rattle.ba_scope.specs.Fits.{ScopeFits}
+use Rattle.ba_ends.specs.Ends.{Tick, end_after_notice, end_asking, end_owing, new_end, tick_of_end, end_with_id, same_id}
+use Rattle.ba_scope.specs.Rules.{choose, complete, decide, expire, finish, leave_by, new_scope, scope_with_end, tick_end, tick_up, with_end_changed, with_up, with_up_moved}
+use Rattle.ba_scope.specs.Scope.{ScopeState, has_id, is_id_above, is_own_id}
+use Rattle.ba_ends.specs.declared.ends.End.{End}
+use Rattle.ba_ends.specs.declared.parts.Part.{Part}
 use Rattle.ba_steps.specs.declared.inputs.Input.{Input}
 use Rattle.ba_steps.specs.declared.inputs.Input.TheVariants as input
 use Rattle.ba_steps.specs.Fits.{HasSpareCounters, NodeFits}

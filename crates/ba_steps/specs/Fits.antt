@@ -4,8 +4,9 @@ use Rattle.std.specs.List.{AllByRecursion, IsDistinct}
 use Rattle.ba_core.specs.Numbers.{id_of}
 use Rattle.ba_core.specs.declared.identifiers.Id.{Id}
 use Rattle.ba_record.specs.Coding.{IsCounter, IsDeadline}
-use Rattle.ba_scope.specs.Fits.{ScopeFits, part_fits}
-use Rattle.ba_scope.specs.Scope.{same_id}
+use Rattle.ba_ends.specs.Parts.{part_fits}
+use Rattle.ba_scope.specs.Fits.{ScopeFits}
+use Rattle.ba_ends.specs.Ends.{same_id}
 use Rattle.ba_steps.specs.Node.{NodeState, ids, last}
 
 -- an identifier of an object at the node with this number: its counter is from 1

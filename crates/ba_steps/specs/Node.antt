@@ -5,9 +5,10 @@ use Rattle.std.specs.Option.{option_to_list}
 use Rattle.ba_core.specs.Numbers.{id_of, node_of, counter_of, code_part}
 use Rattle.ba_core.specs.declared.identifiers.Id.{Id}
 use Rattle.ba_tree.specs.Trees.{joined, greatest}
-use Rattle.ba_scope.specs.declared.ends.End.{End}
-use Rattle.ba_scope.specs.declared.parts.Part.{Part}
-use Rattle.ba_scope.specs.Scope.{ScopeState, end_with_id, same_id}
+use Rattle.ba_ends.specs.declared.ends.End.{End}
+use Rattle.ba_ends.specs.declared.parts.Part.{Part}
+use Rattle.ba_ends.specs.Ends.{end_with_id, same_id}
+use Rattle.ba_scope.specs.Scope.{ScopeState}
 use Rattle.ba_scope.specs.Rules.{with_up}
 
 -- A node: its number, the base of its addresses, the version of its journal, its scopes, and its lone participants,

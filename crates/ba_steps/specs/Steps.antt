@@ -33,15 +33,17 @@ use Rattle.ba_message.specs.declared.endpoints.Epr.{Epr}
 use Rattle.ba_message.specs.declared.messages.Context.{Context}
 use Rattle.ba_record.specs.declared.records.Record.{Record}
 use Rattle.ba_record.specs.declared.records.Record.TheVariants as journal
-use Rattle.ba_scope.specs.Rules.{ScopeStep, choose, complete, decide, end_after_notice, end_after_row, end_asking, end_owing, enrol_refusal, enrolled_part, finish, leave_act, leave_by, new_scope, part_asking, part_in_state, part_owing, refused_part, scope_with_end, verdict_on_the_way, with_end_changed, with_up_moved}
-use Rattle.ba_scope.specs.Scope.{ScopeState, end_of, has_no_coordinator, is_ended_state}
+use Rattle.ba_ends.specs.Ends.{end_after_notice, end_after_row, end_asking, end_owing, end_of, is_ended_state}
+use Rattle.ba_ends.specs.Parts.{enrolled_part, part_asking, part_in_state, part_owing, refused_part, verdict_on_the_way, has_no_coordinator}
+use Rattle.ba_scope.specs.Rules.{ScopeStep, choose, complete, decide, enrol_refusal, finish, leave_act, leave_by, new_scope, scope_with_end, with_end_changed, with_up_moved}
+use Rattle.ba_scope.specs.Scope.{ScopeState}
 use Rattle.ba_scope.specs.declared.answers.EnrolFault.{EnrolFault}
 use Rattle.ba_scope.specs.declared.answers.EnrolFault.TheVariants.{NotYetEnrolled}
 use Rattle.ba_scope.specs.declared.answers.Said.{Said}
 use Rattle.ba_scope.specs.declared.answers.Said.TheVariants as said
 use Rattle.ba_scope.specs.declared.answers.TheConstants.{NO_SUCH_END, NOT_A_CHILD, WRONG_STATE}
-use Rattle.ba_scope.specs.declared.ends.End.{End}
-use Rattle.ba_scope.specs.declared.parts.Part.{Part}
+use Rattle.ba_ends.specs.declared.ends.End.{End}
+use Rattle.ba_ends.specs.declared.parts.Part.{Part}
 use Rattle.ba_steps.specs.declared.answers.Reply.{Reply}
 use Rattle.ba_steps.specs.declared.answers.Reply.TheVariants as reply
 use Rattle.ba_steps.specs.declared.answers.TheConstants.{BAD_ADDRESS, CHILD_PART, NO_SUCH_PART, NO_SUCH_SCOPE}

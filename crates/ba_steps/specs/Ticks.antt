@@ -11,10 +11,12 @@ use Rattle.ba_message.specs.declared.messages.Letter.{Letter}
 use Rattle.ba_message.specs.declared.messages.Message.TheVariants as message
 use Rattle.ba_record.specs.declared.records.Record.{Record}
 use Rattle.ba_record.specs.declared.records.Record.TheVariants as journal
-use Rattle.ba_scope.specs.Rules.{Tick, ScopeStep, expire, state_at_tick, tick_of_end, tick_of_part, tick_up, with_end_changed}
+use Rattle.ba_ends.specs.Ends.{Tick, tick_of_end}
+use Rattle.ba_ends.specs.Parts.{tick_of_part}
+use Rattle.ba_scope.specs.Rules.{ScopeStep, expire, state_at_tick, tick_up, with_end_changed}
 use Rattle.ba_scope.specs.Scope.{ScopeState}
-use Rattle.ba_scope.specs.declared.ends.End.{End}
-use Rattle.ba_scope.specs.declared.parts.Part.{Part}
+use Rattle.ba_ends.specs.declared.ends.End.{End}
+use Rattle.ba_ends.specs.declared.parts.Part.{Part}
 use Rattle.ba_steps.specs.declared.answers.Wake.{Wake}
 use Rattle.ba_steps.specs.declared.answers.Wake.TheVariants as wake
 use Rattle.ba_steps.specs.Addresses.{message_number, participant_of, register_code}

@@ -1,8 +1,9 @@
 //! That a scope enrols where there is memory, until it is full, and the refusals of its calls in their order.
 
 use ba_core::{Id, Kind, Leave, List, Protocol, Verdict};
+use ba_ends::Room;
 use ba_message::Epr;
-use ba_scope::{EnrolFault, Room, Said, Scope};
+use ba_scope::{EnrolFault, Said, Scope};
 use std::alloc::{AllocError, Global};
 use std::test::Fail;
 

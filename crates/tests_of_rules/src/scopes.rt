@@ -1,8 +1,9 @@
 //! The calls of a scope that its own tests leave out, each once.
 
 use ba_core::{CRow, CState, How, Id, Kind, Leave, List, Notice, PRow, PState, Protocol, Verdict};
+use ba_ends::{Part, Room};
 use ba_message::Epr;
-use ba_scope::{Drained, EnrolFault, Part, Room, Said, Scope};
+use ba_scope::{Drained, EnrolFault, Said, Scope};
 use std::alloc::{AllocError, Global};
 use std::test::Fail;
 

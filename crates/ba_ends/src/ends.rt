@@ -7,10 +7,7 @@ ghost use Rattle.ba_core.specs.Messages.{is_column};
 ghost use Rattle.ba_link.specs.Link.{settled_state};
 ghost use Rattle.ba_link.specs.States.{end_among};
 ghost use Rattle.ba_message.specs.Endpoints.{same_epr};
-ghost use Rattle.ba_scope.specs.Fits.{has_own_state};
-ghost use Rattle.ba_scope.specs.Rules.{end_after_notice, end_asking, end_owing, end_with_verdict, end_with_verdict_if_none, is_ready_for, settled_row, tick_of_end};
-ghost use Rattle.ba_scope.specs.Scope.{end_of, end_with_id, first_failing, is_ended_state, is_ready_state, same_id};
-ghost use Rattle.ba_scope.specs.inside.Moves.{completing_end};
+ghost use Rattle.ba_ends.specs.Ends.{has_own_state, end_after_notice, end_asking, end_owing, end_with_verdict, end_with_verdict_if_none, is_ready_for, settled_row, tick_of_end, end_of, end_with_id, first_failing, is_ended_state, is_ready_state, same_id, completing_end};
 
 use ba_core::{CRow, CState, How, Id, Notice, Protocol, Verdict, c_name};
 use ba_message::Epr;
@@ -30,7 +27,7 @@ pub struct End {
 }
 
 /// Whether an end in this state is no hindrance to closing.
-pub(crate) fn is_ready(state: CState) -> bool
+fn is_ready(state: CState) -> bool
     ensures { result ≡ is_ready_state state }
 {
     matches!(
@@ -40,7 +37,7 @@ pub(crate) fn is_ready(state: CState) -> bool
 }
 
 /// Whether an end in this state is no hindrance to a verdict on its scope.
-pub(crate) fn is_ready_for_verdict(verdict: Verdict, state: CState) -> bool
+fn is_ready_for_verdict(verdict: Verdict, state: CState) -> bool
     ensures { result ≡ is_ready_for verdict state }
 {
     match verdict {
@@ -58,7 +55,7 @@ pub fn is_ended(state: CState) -> bool
 
 impl End {
     /// Sets a verdict on the end, which moves where its state lets it.
-    pub(crate) fn set_verdict(&mut self, verdict: Verdict)
+    pub fn set_verdict(&mut self, verdict: Verdict)
         requires { IsTrue (has_own_state self.old) }
         ensures { self.new ≡ end_with_verdict verdict self.old }
     {
@@ -67,7 +64,7 @@ impl End {
     }
 
     /// The same, where it has none.
-    pub(crate) fn set_verdict_if_none(&mut self, verdict: Verdict)
+    fn set_verdict_if_none(&mut self, verdict: Verdict)
         requires { IsTrue (has_own_state self.old) }
         ensures { self.new ≡ end_with_verdict_if_none verdict self.old }
     {
@@ -77,7 +74,7 @@ impl End {
     }
 
     /// The end moves as its participant is asked to complete, where its state lets it.
-    pub(crate) fn complete(&mut self)
+    pub fn complete(&mut self)
         requires { IsTrue (has_own_state self.old) }
         ensures { self.new ≡ completing_end self.old }
     {
@@ -85,7 +82,7 @@ impl End {
     }
 
     /// It owes its Status from now on; true exactly where it didn't before.
-    pub(crate) fn owe(&mut self) -> bool
+    pub fn owe(&mut self) -> bool
         ensures end { self.new ≡ end_owing self.old }
         ensures first { result ≡ not self.old.owes }
     {
@@ -95,7 +92,7 @@ impl End {
     }
 
     /// It is to ask for a Status from now on; true exactly where it wasn't before.
-    pub(crate) fn ask(&mut self) -> bool
+    pub fn ask(&mut self) -> bool
         ensures end { self.new ≡ end_asking self.old }
         ensures first { result ≡ not self.old.asks }
     {
@@ -120,7 +117,7 @@ impl End {
     }
 
     /// The end takes a notice.
-    pub(crate) fn receive(&mut self, notice: Notice) -> CRow
+    pub fn receive(&mut self, notice: Notice) -> CRow
         requires state { IsTrue (has_own_state self.old) }
         requires notice { IsTrue (is_column notice) }
         ensures end { self.new ≡ end_after_notice notice self.old }
@@ -151,7 +148,7 @@ impl End {
     }
 
     /// The end says what it has to say now.
-    pub(crate) fn tick(&mut self) -> Option<Notice>
+    pub fn tick(&mut self) -> Option<Notice>
         requires { IsTrue (has_own_state self.old) }
         ensures end { self.new ≡ (tick_of_end self.old).after }
         ensures says { result ≡ (tick_of_end self.old).says }
@@ -183,7 +180,7 @@ fn settle(protocol: Protocol, state: CState, verdict: Option<Verdict>) -> CState
 }
 
 /// Sets a verdict on each end.
-pub(crate) fn set_verdicts(ends: &mut [End], verdict: Verdict)
+pub fn set_verdicts(ends: &mut [End], verdict: Verdict)
     requires { AllByRecursion (λ e. IsTrue (has_own_state e)) ends.old }
     ensures { ends.new ≡ map (end_with_verdict verdict) ends.old }
 {
@@ -193,7 +190,7 @@ pub(crate) fn set_verdicts(ends: &mut [End], verdict: Verdict)
 }
 
 /// Sets a verdict on each end that has none.
-pub(crate) fn set_verdicts_if_none(ends: &mut [End], verdict: Verdict)
+pub fn set_verdicts_if_none(ends: &mut [End], verdict: Verdict)
     requires { AllByRecursion (λ e. IsTrue (has_own_state e)) ends.old }
     ensures { ends.new ≡ map (end_with_verdict_if_none verdict) ends.old }
 {
@@ -203,7 +200,7 @@ pub(crate) fn set_verdicts_if_none(ends: &mut [End], verdict: Verdict)
 }
 
 /// The place of the end with this Id.
-pub(crate) fn place_of(ends: &[End], id: Id) -> Option<usize>
+pub fn place_of(ends: &[End], id: Id) -> Option<usize>
     ensures within { IfSome result (λ place. place < length ends.now) }
     ensures found { IfSome result (λ place. end_with_id ends.now id ≡ slice_get ends.now place) }
     ensures none { IfNone result (end_with_id ends.now id ≡ None) }
@@ -218,14 +215,14 @@ fn position_of(ends: &[End], id: Id) -> Option<usize>
 }
 
 /// Whether there is an end with this Id.
-pub(crate) fn has_end(ends: &[End], id: Id) -> bool
+pub fn has_end(ends: &[End], id: Id) -> bool
     ensures { result ≡ list_any (λ e. same_id e.id id) ends.now }
 {
     ends.iter().any(|end| end.id == id)
 }
 
 /// The end of this participant.
-pub(crate) fn end_of_participant(ends: &[End], participant: &Epr) -> Option<Id>
+pub fn end_of_participant(ends: &[End], participant: &Epr) -> Option<Id>
     ensures { result ≡ option_map (λ e. e.id) (end_of ends.now participant.now) }
 {
     ends.iter()
@@ -241,7 +238,7 @@ fn is_of(end: &End, participant: &Epr) -> bool
 }
 
 /// The first end that isn't ready for a verdict on its scope.
-pub(crate) fn first_not_ready_for(ends: &[End], verdict: Verdict) -> Option<Id>
+pub fn first_not_ready_for(ends: &[End], verdict: Verdict) -> Option<Id>
     ensures { result ≡ first_failing (is_ready_for verdict) ends.now }
 {
     ends.iter()
@@ -250,7 +247,7 @@ pub(crate) fn first_not_ready_for(ends: &[End], verdict: Verdict) -> Option<Id>
 }
 
 /// The first end that isn't ready to close.
-pub(crate) fn first_not_ready(ends: &[End]) -> Option<Id>
+pub fn first_not_ready(ends: &[End]) -> Option<Id>
     ensures { result ≡ first_failing is_ready_state ends.now }
 {
     ends.iter()
@@ -259,7 +256,7 @@ pub(crate) fn first_not_ready(ends: &[End]) -> Option<Id>
 }
 
 /// The first end that isn't Ended.
-pub(crate) fn first_not_ended(ends: &[End]) -> Option<Id>
+pub fn first_not_ended(ends: &[End]) -> Option<Id>
     ensures { result ≡ first_failing is_ended_state ends.now }
 {
     ends.iter()
@@ -268,14 +265,14 @@ pub(crate) fn first_not_ended(ends: &[End]) -> Option<Id>
 }
 
 /// Whether each end is Ended.
-pub(crate) fn are_ended(ends: &[End]) -> bool
+pub fn are_ended(ends: &[End]) -> bool
     ensures { result ≡ list_all (λ e. is_ended_state e.state) ends.now }
 {
     ends.iter().all(|end| is_ended(end.state))
 }
 
 /// Whether an end is Ended by failing.
-pub(crate) fn any_failed_end(ends: &[End]) -> bool
+pub fn any_failed_end(ends: &[End]) -> bool
     ensures { result ≡ list_any (λ e. end_among (CState.Ended How.Failed ∷ []) e.state) ends.now }
 {
     ends.iter().any(|end| is_failed(end.state))

@@ -2,7 +2,7 @@ use Rattle.std.proofs.Common.{◌≡◌, ◌↔◌, Bool, true, false, IsTrue, r
 use Rattle.ba_message.specs.Endpoints.{same_epr}
 use Rattle.ba_message.specs.declared.endpoints.Epr.{Epr}
 use Rattle.ba_message.proofs.FitTests.{endpoints_equal, endpoint_itself}
-use Rattle.ba_scope.proofs.ends.is_of.Goals as goal
+use Rattle.ba_ends.proofs.ends.is_of.Goals as goal
 
 as_tested : (r test : Bool) (a b : Epr) → test ≡ same_epr a b → (IsTrue r ↔ (a ≡ b)) → r ≡ test
 as_tested true test a b is h = sym (is ∙ subst (λ (x : Epr). same_epr a x ≡ true) (h.0 refl) (endpoint_itself a))

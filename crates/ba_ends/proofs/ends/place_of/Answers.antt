@@ -1,7 +1,7 @@
-use Rattle.ba_scope.specs.Scope.{same_id}
-use Rattle.ba_scope.specs.declared.ends.End.{End}
-use Rattle.ba_scope.proofs.Places.{within_if_some, found_if_some, none_if_none}
-use Rattle.ba_scope.proofs.ends.place_of.Goals as goal
+use Rattle.ba_ends.specs.Ends.{same_id}
+use Rattle.ba_ends.specs.declared.ends.End.{End}
+use Rattle.ba_ends.proofs.Places.{within_if_some, found_if_some, none_if_none}
+use Rattle.ba_ends.proofs.ends.place_of.Goals as goal
 
 pub returns : goal.returns
 returns c =

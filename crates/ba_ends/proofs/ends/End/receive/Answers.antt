@@ -1,7 +1,7 @@
 use Rattle.ba_core.specs.EndRows.{end_row}
-use Rattle.ba_scope.specs.declared.ends.End.{End}
-use Rattle.ba_scope.proofs.Tested.{invalid_after, row_after}
-use Rattle.ba_scope.proofs.ends.End.receive.Goals as goal
+use Rattle.ba_ends.specs.declared.ends.End.{End}
+use Rattle.ba_ends.proofs.Rows.{invalid_after, row_after}
+use Rattle.ba_ends.proofs.ends.End.receive.Goals as goal
 
 pub returns-in-Invalid : goal.returns-in-Invalid
 returns-in-Invalid c =

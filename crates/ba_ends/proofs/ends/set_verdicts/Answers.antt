@@ -1,8 +1,8 @@
 use Rattle.std.proofs.Common.{◌≡◌, sym, ap, ◌∙◌, slice_set}
 use Rattle.std.proofs.lemmas.List.Edits.{map_over_more}
-use Rattle.ba_scope.specs.Rules.{end_with_verdict}
-use Rattle.ba_scope.specs.declared.ends.End.{End}
-use Rattle.ba_scope.proofs.ends.set_verdicts.Goals as goal
+use Rattle.ba_ends.specs.Ends.{end_with_verdict}
+use Rattle.ba_ends.specs.declared.ends.End.{End}
+use Rattle.ba_ends.proofs.ends.set_verdicts.Goals as goal
 
 pub loop-end-preserved : goal.loop-end-preserved
 loop-end-preserved c =

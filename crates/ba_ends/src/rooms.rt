@@ -34,7 +34,7 @@ impl Room {
     }
 
     /// The memory itself, in which there are no ends.
-    pub(crate) fn into_block(self) -> Vec<End>
+    pub fn into_block(self) -> Vec<End>
         ensures items { result.items ≡ [] }
         ensures capacity { vec_capacity result ≡ self }
     {

@@ -1,8 +1,7 @@
 //! Participants.
 ghost use Rattle.std.specs.Prelude.{◌≡◌, IsTrue, Some, not};
 ghost use Rattle.ba_core.specs.PartRows.{is_part_state};
-ghost use Rattle.ba_scope.specs.Rules.{enrolled_part, is_enrolled_as, part_asking, part_owing, refused_part, tick_of_part, verdict_on_the_way};
-ghost use Rattle.ba_scope.specs.Scope.{has_no_coordinator, is_registering};
+ghost use Rattle.ba_ends.specs.Parts.{enrolled_part, is_enrolled_as, part_asking, part_owing, refused_part, tick_of_part, verdict_on_the_way, has_no_coordinator, is_registering};
 
 use ba_core::{How, Id, Notice, PState, Protocol, Verdict, p_name};
 use ba_message::Epr;
