@@ -2,6 +2,7 @@ pub mod Cases
 pub mod Changed
 pub mod Enacted
 pub mod EndpointsKept
+pub mod FewObjects
 pub mod Hyphens
 pub mod InRange
 pub mod LettersSent
@@ -10,6 +11,7 @@ pub mod NodeKept
 pub mod Objects
 pub mod Own
 pub mod Places
+pub mod RecordsGive
 pub mod Reenacted
 pub mod Replayed
 pub mod SameNode

@@ -1,5 +1,5 @@
 //! Laws of steps. Each function does nothing: its contract is the law.
-ghost use Rattle.std.specs.Prelude.{◌≡◌, ◌≢◌, ◌↔◌, ◌+◌, ◌≤◌, ℕ, List, [], ◌∷◌, ◌++◌, length, None, Some, IsTrue, is_some};
+ghost use Rattle.std.specs.Prelude.{◌≡◌, ◌≢◌, ◌↔◌, ◌+◌, ◌*◌, ◌≤◌, ℕ, List, [], ◌∷◌, ◌++◌, length, None, Some, IsTrue, is_some};
 ghost use Rattle.std.specs.List.{AllByRecursion};
 ghost use Rattle.std.specs.Option.{option_map, option_to_list};
 ghost use Rattle.ba_core.specs.declared.codes.Code.TheVariants as code;
@@ -17,7 +17,7 @@ ghost use Rattle.ba_steps.specs.Addresses.{HasText, coordinator_of, participant_
 ghost use Rattle.ba_steps.specs.Endpoints.{AllReachable, GivesFit};
 ghost use Rattle.ba_steps.specs.Examples.{node_after, after_records, all_written, child_is_made, fails_below, first_base, first_completes, first_node, object, own_choices, register_below, register_of, reply_to, second_exits, second_node, shown_ends, shown_scopes};
 ghost use Rattle.ba_steps.specs.Fits.{HasSpareCounters, NodeFits};
-ghost use Rattle.ba_steps.specs.Lawful.{AreFew, AreLawful, Event, IsStepOf, Replays, after_record, change};
+ghost use Rattle.ba_steps.specs.Lawful.{AreFew, AreLawful, Event, IsStepOf, Replays, after_record, change, event_of};
 ghost use Rattle.ba_steps.specs.Letters.{IsLetterOf};
 ghost use Rattle.ba_steps.specs.Node.{NodeState, SameNode, last, new_node};
 ghost use Rattle.ba_steps.specs.Ticks.{tick_step};
@@ -130,4 +130,18 @@ pub fn fail_climbs_a_tree()
         ≡ Some ((((object 2 3).0, end.Ended Failed, Some Undo) ∷ []) ∷ []) }
     ensures above_again { option_map shown_scopes (after_records (Some second_node) (all_written second_node fails_below))
         ≡ Some ((Some Undo, part.FailingCompensating ∷ []) ∷ []) }
+{}
+
+/// What a record in its ranges gives when its step is enacted again fits, so that the node after it keeps no endpoint that
+/// can't be written to.
+pub fn a_record_gives_what_fits()
+    ensures fits { (n : NodeState) (r : Record) (e : Event) → InRange r → event_of n r ≡ Some e → GivesFit e }
+    ensures reachable { (n : NodeState) (r : Record) (after : NodeState) → InRange r → AllReachable n
+        → after_record n r ≡ Some after → AllReachable after }
+{}
+
+/// A replay has at most two objects for each of its records.
+pub fn a_replay_has_few_objects()
+    ensures { (records : List Record) (n : NodeState) → AllByRecursion InRange records → AreFew records
+        → Replays records n → last n ≤ 2 * length records }
 {}
