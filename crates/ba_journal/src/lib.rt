@@ -19,5 +19,6 @@ mod syncing;
 
 pub use faults::JournalFault;
 pub use journals::{GREATEST_LENGTH, Journal};
+pub use loads::FIRST_GATE;
 pub use scanning::scan;
 pub use scans::{Scan, ScanFault};

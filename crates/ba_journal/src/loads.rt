@@ -19,8 +19,8 @@ use ba_ports::{Disk, Failed};
 use ba_record::Record;
 use std::alloc::Global;
 
-// The place of a new journal's first gate, in bytes.
-const FIRST_GATE: u64 = 16;
+/// The place of a new journal's first gate, in bytes.
+pub const FIRST_GATE: u64 = 16;
 
 /// Makes what the disk holds durable, reads it, and makes a journal or repairs its end: the place of the last gate,
 /// which is then 0 and the last byte, and the records.
