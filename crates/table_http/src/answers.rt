@@ -14,7 +14,8 @@ pub fn answer(alloc: Global, row: &str) -> Result<String, AllocError> {
     let (form, written) = form_of(row);
     let bytes = bytes_of(alloc, written)?;
     match form {
-        Form::Cuts => cuts(alloc, bytes.as_slice()),
+        Form::RequestCuts => cuts(alloc, Form::Request, bytes.as_slice()),
+        Form::ReplyCuts => cuts(alloc, Form::Reply, bytes.as_slice()),
         _ => whole(alloc, form, bytes.as_slice()),
     }
 }
@@ -32,10 +33,10 @@ fn whole(alloc: Global, form: Form, bytes: &[u8]) -> Result<String, AllocError> 
 }
 
 /// How many prefixes are truncated, from the empty one up to the first that isn't.
-fn cuts(alloc: Global, bytes: &[u8]) -> Result<String, AllocError> {
+fn cuts(alloc: Global, form: Form, bytes: &[u8]) -> Result<String, AllocError> {
     let mut count = 0;
     for size in 0..bytes.len() {
-        let (said, _) = read_by(alloc, Form::Request, &bytes[..size], 1_000_000)?;
+        let (said, _) = read_by(alloc, form, &bytes[..size], 1_000_000)?;
         if said.as_str() != "95" {
             break;
         }

@@ -5,6 +5,7 @@
 //! - `reply: ` and a text, which is read as a reply. The answer is its code and its body, or its refusal;
 //! - `cuts: ` and a text, which is read as a request. The answer is how many of its prefixes, from the empty one up to the
 //!   first that isn't, are refused as truncated;
+//! - `reply cuts: ` and a text, which is read as a reply, likewise;
 //! - `# ` and a heading, which has no answer.
 //!
 //! A refusal is 91 (no head goes on with the line at a place), 92 (no length, or more than one), 93 (a limit is passed), 94

@@ -5,7 +5,8 @@
 pub enum Form {
     Request,
     Reply,
-    Cuts,
+    RequestCuts,
+    ReplyCuts,
 }
 
 /// A row's form, and what stands after its word.
@@ -13,7 +14,9 @@ pub fn form_of(row: &str) -> (Form, &str) {
     if let Some(rest) = row.strip_prefix("reply: ") {
         (Form::Reply, rest)
     } else if let Some(rest) = row.strip_prefix("cuts: ") {
-        (Form::Cuts, rest)
+        (Form::RequestCuts, rest)
+    } else if let Some(rest) = row.strip_prefix("reply cuts: ") {
+        (Form::ReplyCuts, rest)
     } else {
         (Form::Request, row)
     }
