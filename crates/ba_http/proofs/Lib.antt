@@ -1,4 +1,5 @@
 pub mod AfterHead
+pub mod AnyCuts
 pub mod AtInput
 pub mod BodiesShow
 pub mod HeadsShow

@@ -1,5 +1,5 @@
 //! Laws of messages. Each function does nothing: its contract is the law.
-ghost use Rattle.std.specs.Prelude.{◌≡◌, ◌≢◌, ◌<◌, ◌≤◌, ◌⊎◌, ℕ, List, ◌++◌, length, take, Option, Result, Ok, Err};
+ghost use Rattle.std.specs.Prelude.{◌≡◌, ◌≢◌, ◌<◌, ◌≤◌, ◌⊎◌, ℕ, List, ◌++◌, length, take, Option, Some, Result, Ok, Err};
 ghost use Rattle.std.specs.Io.KnownBytes.{Consumes, IsAtEnd};
 ghost use Rattle.ba_http_head.specs.declared.faults.HttpFault.{HttpFault};
 ghost use Rattle.ba_http_head.specs.declared.headings.Heading.{Heading};
@@ -64,4 +64,11 @@ pub fn less_than_a_block_is_taken_after_an_answer()
     ensures refusal { (heading : Heading) (old new : Option (List ℕ)) (fault : HttpFault) → Reads heading old new (Err fault)
         → fault ≢ HttpFault.Memory → fault ≢ HttpFault.Truncated → fault ≢ HttpFault.Read
         → TakesLittleMore heading old new (Err fault) }
+{}
+
+/// Whatever the cuts, what is read of a link that says its bytes is one answer, but for want of memory and faults of the link.
+pub fn any_cuts_give_one_answer()
+    ensures { (heading : Heading) (bytes : List ℕ) (one other : Option (List ℕ)) (a b : Result Message HttpFault)
+        → Reads heading (Some bytes) one a → Reads heading (Some bytes) other b
+        → a ≢ Err HttpFault.Memory → a ≢ Err HttpFault.Read → b ≢ Err HttpFault.Memory → b ≢ Err HttpFault.Read → a ≡ b }
 {}
