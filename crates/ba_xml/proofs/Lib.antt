@@ -2,10 +2,12 @@ pub mod Allowed
 pub mod Characters
 pub mod Conditions
 pub mod Declared
+pub mod Feeding
 pub mod Fine
 pub mod FineTrees
 pub mod LegalTexts
 pub mod Meaning
+pub mod Pieces
 pub mod Prefixes
 pub mod Rewritten
 pub mod RoundTrip
