@@ -19,6 +19,20 @@ build_ba() {
     program=$top/.built/ba
 }
 
+# build_program NAME WORD..: builds the program of a crate where it must be, and runs it once with these words.
+build_program() {
+    local name=$1 log=$top/.built/log.$1 script=${0##*/}
+    shift
+    mkdir -p "$top/.built"
+    echo "$script: proving and building $name; each line of the prover goes to $log" >&2
+    if ! (cd "$top/crates/$name" && rt run -- "$@") < /dev/null 2>&1 | tee "$log" |
+        sed -unE "s/^(rt: chose --jobs [0-9]+ for ([a-z0-9_]+)|[a-z]+ ([a-z0-9_]+)::.*: proved)$/$script: proving \\2\\3/p" | uniq >&2; then
+        echo "$script: $name was not built; $log says why" >&2
+        exit 1
+    fi
+    program=$top/crates/$name/out/$name
+}
+
 # least RUNS FILE COMMAND..: the least of so many runs on this input, in microseconds.
 least() {
     python3 - "$@" <<'P'
