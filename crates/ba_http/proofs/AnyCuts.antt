@@ -16,7 +16,8 @@ data Ground (heading : Heading) (bytes : List ℕ) (answer : Result Message Http
   cut_short : answer ≡ Err Truncated → IsCutShort heading bytes → Ground heading bytes answer
 
 module _ (heading : Heading) (bytes taken rest : List ℕ) (split : bytes ≡ taken ++ rest) where
-  told : (answer : Result Message HttpFault) (n : ℕ) → n ≤ length taken → Decides heading (take n taken) answer → Ground heading bytes answer
+  told : (answer : Result Message HttpFault) (n : ℕ) → n ≤ length taken → Decides heading (take n taken) answer
+      → Ground heading bytes answer
   told answer n within decides =
       decided n (omega (arith, within, ap length split, length-append taken rest))
       (subst (λ v. Decides heading v answer) (sym (ap (take n) split ∙ take-append-le n taken rest within)) decides)
@@ -51,12 +52,14 @@ one_answer : (heading : Heading) (bytes : List ℕ) (a b : Result Message HttpFa
 one_answer heading bytes a b (decided m x d) (decided n y e) = (decides_once heading bytes m n a b x y d e).1
 one_answer heading bytes a b (decided m x d) (at_the_end w q e) =
     absurd (decision_settles heading bytes m a x d (unfinished_at_input heading bytes w e))
-one_answer heading bytes a b (decided m x d) (cut_short q c) = absurd (decision_settles heading bytes m a x d (cut_unfinished heading bytes c))
+one_answer heading bytes a b (decided m x d) (cut_short q c) =
+    absurd (decision_settles heading bytes m a x d (cut_unfinished heading bytes c))
 one_answer heading bytes a b (at_the_end v p d) (decided n y e) =
     absurd (decision_settles heading bytes n b y e (unfinished_at_input heading bytes v d))
 one_answer heading bytes a b (at_the_end v p d) (at_the_end w q e) = p ∙ ap ok_of (one_at_input heading bytes v w d e) ∙ sym q
 one_answer heading bytes a b (at_the_end v p d) (cut_short q c) = absurd (whole_at_input heading bytes v d c)
-one_answer heading bytes a b (cut_short p c) (decided n y e) = absurd (decision_settles heading bytes n b y e (cut_unfinished heading bytes c))
+one_answer heading bytes a b (cut_short p c) (decided n y e) =
+    absurd (decision_settles heading bytes n b y e (cut_unfinished heading bytes c))
 one_answer heading bytes a b (cut_short p c) (at_the_end w q e) = absurd (whole_at_input heading bytes w e c)
 one_answer heading bytes a b (cut_short p c) (cut_short q d) = p ∙ sym q
 
