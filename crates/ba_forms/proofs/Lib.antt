@@ -1,0 +1,11 @@
+pub mod Accepted
+pub mod Back
+pub mod Choices
+pub mod FirstWords
+pub mod Fits
+pub mod Fitting
+pub mod Later
+pub mod Meanings
+pub mod Names
+pub mod Told
+pub mod Walks
