@@ -213,7 +213,8 @@ world_back words =
     else if same (first_of words) (codes "fail") then world.Fail (value (word_at 1 words)) (value (word_at 2 words))
     else world.Open (value (word_at 1 words))
 
-create_is : (n m : ℕ) (k l : Kind) (under other : Option (Id × Protocol)) (expires later : Option ℕ) → n ≡ m → k ≡ l → under ≡ other → expires ≡ later
+create_is : (n m : ℕ) (k l : Kind) (under other : Option (Id × Protocol)) (expires later : Option ℕ) → n ≡ m → k ≡ l → under ≡ other
+    → expires ≡ later
     → world.Create n k under expires ≡ world.Create m l other later
 create_is n m k l under other expires later a b c d = cc
 
@@ -293,7 +294,8 @@ line_back chosen line = if remark_test line then Nothing else words_back chosen 
 not_remark : (line : List ℕ) (words : List (List ℕ)) → words_of line ≡ words → remark_test line ≡ remark_test (joined 32 words)
 not_remark line words is = ap remark_test (sym (joined_parted 32 line) ∙ ap (joined 32) is)
 
-by_words : (chosen : Option Form) (line : List ℕ) (words : List (List ℕ)) (r : Reading) → words_of line ≡ words → remark_test (joined 32 words) ≡ false
+by_words : (chosen : Option Form) (line : List ℕ) (words : List (List ℕ)) (r : Reading) → words_of line ≡ words
+    → remark_test (joined 32 words) ≡ false
     → words_back chosen words ≡ r → line_back chosen line ≡ r
 by_words chosen line words r is plain back =
     ap (λ (t : Bool). if t then Nothing else words_back chosen (words_of line)) (not_remark line words is ∙ plain)

@@ -33,8 +33,26 @@ act_fits acts.CannotComplete word is = ap (fits an_act) is
 pub no_act : (word : List ℕ) → ((x : Act) → word ≢ act_word x) → fits an_act word ≡ false
 unfolding fits
 no_act word none =
-    none_of (act_word acts.Completed ∷ act_word acts.Closed ∷ act_word acts.Canceled ∷ act_word acts.Compensated ∷ act_word acts.Fail ∷ act_word acts.Exit ∷ act_word acts.CannotComplete ∷ []) word
-    (none acts.Completed, (none acts.Closed, (none acts.Canceled, (none acts.Compensated, (none acts.Fail, (none acts.Exit, (none acts.CannotComplete, tt)))))))
+    none_of (act_word acts.Completed ∷ act_word acts.Closed ∷ act_word acts.Canceled ∷ act_word acts.Compensated ∷ act_word acts.Fail
+    ∷ act_word acts.Exit ∷ act_word acts.CannotComplete ∷ []) word (
+      none acts.Completed,
+      (
+        none acts.Closed,
+        (
+          none acts.Canceled,
+          (
+            none acts.Compensated,
+            (
+              none acts.Fail,
+              (
+                none acts.Exit,
+                (none acts.CannotComplete, tt),
+              ),
+            ),
+          ),
+        ),
+      ),
+    )
 
 pub verdict_fits : (x : Verdict) (word : List ℕ) → word ≡ verdict_word x → fits a_verdict word ≡ true
 unfolding fits
@@ -115,19 +133,23 @@ pub act_if_none : (r : Option Act) (word : List ℕ) → IfNone r ((x : Act) →
 act_if_none None word none = no_act word none
 act_if_none (Some x) word none = tt
 
-pub verdict_if_some : (r : Option Verdict) (word : List ℕ) → IfSome r (λ x. word ≡ verdict_word x) → IfSome r (λ x. fits a_verdict word ≡ true)
+pub verdict_if_some : (r : Option Verdict) (word : List ℕ) → IfSome r (λ x. word ≡ verdict_word x)
+    → IfSome r (λ x. fits a_verdict word ≡ true)
 verdict_if_some None word is = tt
 verdict_if_some (Some x) word is = verdict_fits x word is
 
-pub verdict_if_none : (r : Option Verdict) (word : List ℕ) → IfNone r ((x : Verdict) → word ≢ verdict_word x) → IfNone r (fits a_verdict word ≡ false)
+pub verdict_if_none : (r : Option Verdict) (word : List ℕ) → IfNone r ((x : Verdict) → word ≢ verdict_word x)
+    → IfNone r (fits a_verdict word ≡ false)
 verdict_if_none None word none = no_verdict word none
 verdict_if_none (Some x) word none = tt
 
-pub protocol_if_some : (r : Option Protocol) (word : List ℕ) → IfSome r (λ x. word ≡ protocol_word x) → IfSome r (λ x. fits a_protocol word ≡ true)
+pub protocol_if_some : (r : Option Protocol) (word : List ℕ) → IfSome r (λ x. word ≡ protocol_word x)
+    → IfSome r (λ x. fits a_protocol word ≡ true)
 protocol_if_some None word is = tt
 protocol_if_some (Some x) word is = protocol_fits x word is
 
-pub protocol_if_none : (r : Option Protocol) (word : List ℕ) → IfNone r ((x : Protocol) → word ≢ protocol_word x) → IfNone r (fits a_protocol word ≡ false)
+pub protocol_if_none : (r : Option Protocol) (word : List ℕ) → IfNone r ((x : Protocol) → word ≢ protocol_word x)
+    → IfNone r (fits a_protocol word ≡ false)
 protocol_if_none None word none = no_protocol word none
 protocol_if_none (Some x) word none = tt
 
@@ -143,7 +165,8 @@ pub leave_if_some : (r : Option Leave) (word : List ℕ) → IfSome r (λ x. wor
 leave_if_some None word is = tt
 leave_if_some (Some x) word is = leave_fits x word is
 
-pub leave_if_none : (r : Option Leave) (word : List ℕ) → IfNone r ((x : Leave) → word ≢ leave_word x) → IfNone r (fits a_leave word ≡ false)
+pub leave_if_none : (r : Option Leave) (word : List ℕ) → IfNone r ((x : Leave) → word ≢ leave_word x)
+    → IfNone r (fits a_leave word ≡ false)
 leave_if_none None word none = no_leave word none
 leave_if_none (Some x) word none = tt
 
@@ -151,7 +174,8 @@ pub image_if_some : (r : Option Image) (word : List ℕ) → IfSome r (λ x. wor
 image_if_some None word is = tt
 image_if_some (Some x) word is = image_fits x word is
 
-pub image_if_none : (r : Option Image) (word : List ℕ) → IfNone r ((x : Image) → word ≢ image_word x) → IfNone r (fits an_image word ≡ false)
+pub image_if_none : (r : Option Image) (word : List ℕ) → IfNone r ((x : Image) → word ≢ image_word x)
+    → IfNone r (fits an_image word ≡ false)
 image_if_none None word none = no_image word none
 image_if_none (Some x) word none = tt
 
@@ -165,7 +189,9 @@ side_if_none (Some x) word none = tt
 
 -- a word that fits is that of one of them
 
-act_of_some : (word : List ℕ) → SomeWord word (act_word acts.Completed ∷ act_word acts.Closed ∷ act_word acts.Canceled ∷ act_word acts.Compensated ∷ act_word acts.Fail ∷ act_word acts.Exit ∷ act_word acts.CannotComplete ∷ []) → (x : Act) × (word ≡ act_word x)
+act_of_some : (word : List ℕ) → SomeWord word (act_word acts.Completed ∷ act_word acts.Closed ∷ act_word acts.Canceled
+    ∷ act_word acts.Compensated ∷ act_word acts.Fail ∷ act_word acts.Exit ∷ act_word acts.CannotComplete ∷ [])
+    → (x : Act) × (word ≡ act_word x)
 act_of_some word (inl is) = (acts.Completed, is)
 act_of_some word (inr (inl is)) = (acts.Closed, is)
 act_of_some word (inr (inr (inl is))) = (acts.Canceled, is)
@@ -177,9 +203,11 @@ act_of_some word (inr (inr (inr (inr (inr (inr (inr none))))))) = absurd none
 
 pub act_of_fit : (word : List ℕ) → fits an_act word ≡ true → (x : Act) × (word ≡ act_word x)
 unfolding fits
-act_of_fit word holds = act_of_some word (some_word (act_word acts.Completed ∷ act_word acts.Closed ∷ act_word acts.Canceled ∷ act_word acts.Compensated ∷ act_word acts.Fail ∷ act_word acts.Exit ∷ act_word acts.CannotComplete ∷ []) word holds)
+act_of_fit word holds = act_of_some word (some_word (act_word acts.Completed ∷ act_word acts.Closed ∷ act_word acts.Canceled
+    ∷ act_word acts.Compensated ∷ act_word acts.Fail ∷ act_word acts.Exit ∷ act_word acts.CannotComplete ∷ []) word holds)
 
-verdict_of_some : (word : List ℕ) → SomeWord word (verdict_word verdicts.Close ∷ verdict_word verdicts.Undo ∷ []) → (x : Verdict) × (word ≡ verdict_word x)
+verdict_of_some : (word : List ℕ) → SomeWord word (verdict_word verdicts.Close ∷ verdict_word verdicts.Undo ∷ [])
+    → (x : Verdict) × (word ≡ verdict_word x)
 verdict_of_some word (inl is) = (verdicts.Close, is)
 verdict_of_some word (inr (inl is)) = (verdicts.Undo, is)
 verdict_of_some word (inr (inr none)) = absurd none
@@ -188,7 +216,8 @@ pub verdict_of_fit : (word : List ℕ) → fits a_verdict word ≡ true → (x :
 unfolding fits
 verdict_of_fit word holds = verdict_of_some word (some_word (verdict_word verdicts.Close ∷ verdict_word verdicts.Undo ∷ []) word holds)
 
-protocol_of_some : (word : List ℕ) → SomeWord word (protocol_word protocols.Pc ∷ protocol_word protocols.Cc ∷ []) → (x : Protocol) × (word ≡ protocol_word x)
+protocol_of_some : (word : List ℕ) → SomeWord word (protocol_word protocols.Pc ∷ protocol_word protocols.Cc ∷ [])
+    → (x : Protocol) × (word ≡ protocol_word x)
 protocol_of_some word (inl is) = (protocols.Pc, is)
 protocol_of_some word (inr (inl is)) = (protocols.Cc, is)
 protocol_of_some word (inr (inr none)) = absurd none
@@ -206,7 +235,8 @@ pub kind_of_fit : (word : List ℕ) → fits a_kind word ≡ true → (x : Kind)
 unfolding fits
 kind_of_fit word holds = kind_of_some word (some_word (kind_word kinds.Atomic ∷ kind_word kinds.Mixed ∷ []) word holds)
 
-leave_of_some : (word : List ℕ) → SomeWord word (leave_word leaves.Exit ∷ leave_word leaves.Fail ∷ leave_word leaves.CannotComplete ∷ []) → (x : Leave) × (word ≡ leave_word x)
+leave_of_some : (word : List ℕ) → SomeWord word (leave_word leaves.Exit ∷ leave_word leaves.Fail ∷ leave_word leaves.CannotComplete
+    ∷ []) → (x : Leave) × (word ≡ leave_word x)
 leave_of_some word (inl is) = (leaves.Exit, is)
 leave_of_some word (inr (inl is)) = (leaves.Fail, is)
 leave_of_some word (inr (inr (inl is))) = (leaves.CannotComplete, is)
@@ -214,9 +244,11 @@ leave_of_some word (inr (inr (inr none))) = absurd none
 
 pub leave_of_fit : (word : List ℕ) → fits a_leave word ≡ true → (x : Leave) × (word ≡ leave_word x)
 unfolding fits
-leave_of_fit word holds = leave_of_some word (some_word (leave_word leaves.Exit ∷ leave_word leaves.Fail ∷ leave_word leaves.CannotComplete ∷ []) word holds)
+leave_of_fit word holds = leave_of_some word (some_word (leave_word leaves.Exit ∷ leave_word leaves.Fail
+    ∷ leave_word leaves.CannotComplete ∷ []) word holds)
 
-image_of_some : (word : List ℕ) → SomeWord word (image_word images.Old ∷ image_word images.New ∷ image_word images.Filled ∷ image_word images.Half ∷ []) → (x : Image) × (word ≡ image_word x)
+image_of_some : (word : List ℕ) → SomeWord word (image_word images.Old ∷ image_word images.New ∷ image_word images.Filled
+    ∷ image_word images.Half ∷ []) → (x : Image) × (word ≡ image_word x)
 image_of_some word (inl is) = (images.Old, is)
 image_of_some word (inr (inl is)) = (images.New, is)
 image_of_some word (inr (inr (inl is))) = (images.Filled, is)
@@ -225,9 +257,11 @@ image_of_some word (inr (inr (inr (inr none)))) = absurd none
 
 pub image_of_fit : (word : List ℕ) → fits an_image word ≡ true → (x : Image) × (word ≡ image_word x)
 unfolding fits
-image_of_fit word holds = image_of_some word (some_word (image_word images.Old ∷ image_word images.New ∷ image_word images.Filled ∷ image_word images.Half ∷ []) word holds)
+image_of_fit word holds = image_of_some word (some_word (image_word images.Old ∷ image_word images.New ∷ image_word images.Filled
+    ∷ image_word images.Half ∷ []) word holds)
 
-side_of_some : (word : List ℕ) → SomeWord word (side_word sides.Coordinator ∷ side_word sides.Participant ∷ []) → (x : Side) × (word ≡ side_word x)
+side_of_some : (word : List ℕ) → SomeWord word (side_word sides.Coordinator ∷ side_word sides.Participant ∷ [])
+    → (x : Side) × (word ≡ side_word x)
 side_of_some word (inl is) = (sides.Coordinator, is)
 side_of_some word (inr (inl is)) = (sides.Participant, is)
 side_of_some word (inr (inr none)) = absurd none

@@ -17,6 +17,10 @@ use Rattle.ba_forms.proofs.Fits.{other_than}
 one_word : (a b : List ℕ) → a ∷ [] ≡ b ∷ [] → a ≡ b
 one_word a b same = cc
 
+-- a word that is no line's first word
+other_first : (wanted word : List ℕ) → wanted ∷ [] ≢ word ∷ [] → fits (the wanted) word ≡ false
+other_first wanted word other = other_than wanted word (λ is. other (ap (λ t. t ∷ []) (sym is)))
+
 -- the first words of these forms don't fit the word
 abbrev BeginOtherwise : List ℕ → List (List Slot) → Type 0
 BeginOtherwise word [] = Unit {0}
@@ -29,7 +33,8 @@ none_left ([] ∷ forms) word others = none_left forms word others
 none_left ((slot ∷ slots) ∷ forms) word others =
     ap (λ t. if t then slots ∷ left_after forms word else left_after forms word) others.0 ∙ none_left forms word others.1
 
-pub world_left_of : (next : WorldWords) (word : List ℕ) → BeginsWorld next → world_so_far next ≡ word ∷ [] → left_after world_forms word ≡ world_left next
+pub world_left_of : (next : WorldWords) (word : List ℕ) → BeginsWorld next → world_so_far next ≡ word ∷ []
+    → left_after world_forms word ≡ world_left next
 unfolding world_forms fits
 world_left_of world.Create word begins is = ap (left_after world_forms) (sym (one_word (codes "create") word is))
 world_left_of world.Join word begins is = ap (left_after world_forms) (sym (one_word (codes "join") word is))
@@ -64,26 +69,72 @@ world_left_of (world.CrashAtCall n c) word begins is = absurd begins
 world_left_of (world.FailNode n) word begins is = absurd begins
 world_left_of (world.Whole e) word begins is = absurd begins
 
-pub no_world_left : (word : List ℕ) → ((next : WorldWords) → BeginsWorld next → world_so_far next ≢ word ∷ []) → left_after world_forms word ≡ []
+pub no_world_left : (word : List ℕ) → ((next : WorldWords) → BeginsWorld next → world_so_far next ≢ word ∷ [])
+    → left_after world_forms word ≡ []
 unfolding world_forms
 no_world_left word none =
-    let create_other : fits (the (codes "create")) word ≡ false = other_than (codes "create") word (λ is. none world.Create tt (ap (λ t. t ∷ []) (sym is))) in
-    let join_other : fits (the (codes "join")) word ≡ false = other_than (codes "join") word (λ is. none world.Join tt (ap (λ t. t ∷ []) (sym is))) in
-    let tick_other : fits (the (codes "tick")) word ≡ false = other_than (codes "tick") word (λ is. none world.Tick tt (ap (λ t. t ∷ []) (sym is))) in
-    let deliver_other : fits (the (codes "deliver")) word ≡ false = other_than (codes "deliver") word (λ is. none world.Deliver tt (ap (λ t. t ∷ []) (sym is))) in
-    let act_other : fits (the (codes "act")) word ≡ false = other_than (codes "act") word (λ is. none world.Act tt (ap (λ t. t ∷ []) (sym is))) in
-    let ask_other : fits (the (codes "ask")) word ≡ false = other_than (codes "ask") word (λ is. none world.Ask tt (ap (λ t. t ∷ []) (sym is))) in
-    let decide_other : fits (the (codes "decide")) word ≡ false = other_than (codes "decide") word (λ is. none world.Decide tt (ap (λ t. t ∷ []) (sym is))) in
-    let choose_other : fits (the (codes "choose")) word ≡ false = other_than (codes "choose") word (λ is. none world.Choose tt (ap (λ t. t ∷ []) (sym is))) in
-    let complete_other : fits (the (codes "complete")) word ≡ false = other_than (codes "complete") word (λ is. none world.Complete tt (ap (λ t. t ∷ []) (sym is))) in
-    let finish_other : fits (the (codes "finish")) word ≡ false = other_than (codes "finish") word (λ is. none world.Finish tt (ap (λ t. t ∷ []) (sym is))) in
-    let leave_other : fits (the (codes "leave")) word ≡ false = other_than (codes "leave") word (λ is. none world.Leave tt (ap (λ t. t ∷ []) (sym is))) in
-    let wait_other : fits (the (codes "wait")) word ≡ false = other_than (codes "wait") word (λ is. none world.Wait tt (ap (λ t. t ∷ []) (sym is))) in
-    let crash_other : fits (the (codes "crash")) word ≡ false = other_than (codes "crash") word (λ is. none world.Crash tt (ap (λ t. t ∷ []) (sym is))) in
-    let crashat_other : fits (the (codes "crashat")) word ≡ false = other_than (codes "crashat") word (λ is. none world.CrashAt tt (ap (λ t. t ∷ []) (sym is))) in
-    let fail_other : fits (the (codes "fail")) word ≡ false = other_than (codes "fail") word (λ is. none world.Fail tt (ap (λ t. t ∷ []) (sym is))) in
-    let open_other : fits (the (codes "open")) word ≡ false = other_than (codes "open") word (λ is. none world.Open tt (ap (λ t. t ∷ []) (sym is))) in
-    none_left world_forms word (create_other, (create_other, (create_other, (create_other, (create_other, (create_other, (join_other, (tick_other, (deliver_other, (act_other, (ask_other, (decide_other, (choose_other, (complete_other, (finish_other, (leave_other, (wait_other, (crash_other, (crashat_other, (fail_other, (open_other, tt)))))))))))))))))))))
+    let create_other = other_first (codes "create") word (none world.Create tt) in
+    let join_other = other_first (codes "join") word (none world.Join tt) in
+    let tick_other = other_first (codes "tick") word (none world.Tick tt) in
+    let deliver_other = other_first (codes "deliver") word (none world.Deliver tt) in
+    let act_other = other_first (codes "act") word (none world.Act tt) in
+    let ask_other = other_first (codes "ask") word (none world.Ask tt) in
+    let decide_other = other_first (codes "decide") word (none world.Decide tt) in
+    let choose_other = other_first (codes "choose") word (none world.Choose tt) in
+    let complete_other = other_first (codes "complete") word (none world.Complete tt) in
+    let finish_other = other_first (codes "finish") word (none world.Finish tt) in
+    let leave_other = other_first (codes "leave") word (none world.Leave tt) in
+    let wait_other = other_first (codes "wait") word (none world.Wait tt) in
+    let crash_other = other_first (codes "crash") word (none world.Crash tt) in
+    let crashat_other = other_first (codes "crashat") word (none world.CrashAt tt) in
+    let fail_other = other_first (codes "fail") word (none world.Fail tt) in
+    let open_other = other_first (codes "open") word (none world.Open tt) in
+    none_left world_forms word (
+      create_other,
+      (
+        create_other,
+        (
+          create_other,
+          (
+            create_other,
+            (
+              create_other,
+              (
+                create_other,
+                (
+                  join_other,
+                  (
+                    tick_other,
+                    (
+                      deliver_other,
+                      (
+                        act_other,
+                        (
+                          ask_other,
+                          (
+                            decide_other,
+                            (
+                              choose_other,
+                              (
+                                complete_other,
+                                (
+                                  finish_other,
+                                  (leave_other, (wait_other, (crash_other, (crashat_other, (fail_other, (open_other, tt)))))),
+                                ),
+                              ),
+                            ),
+                          ),
+                        ),
+                      ),
+                    ),
+                  ),
+                ),
+              ),
+            ),
+          ),
+        ),
+      ),
+    )
 
 -- the same of the line that chooses the form
 pub opening_left_of : (next : OpeningWords) (word : List ℕ) → BeginsOpening next → opening_so_far next ≡ word ∷ []
@@ -93,21 +144,24 @@ opening_left_of opening.Pair word begins is = ap (left_after opening_forms) (sym
 opening_left_of opening.Nodes word begins is = ap (left_after opening_forms) (sym (one_word (codes "nodes") word is))
 opening_left_of (opening.Whole f) word begins is = absurd begins
 
-pub pair_left_none : (next : OpeningWords) (word : List ℕ) → BeginsOpening next → opening_so_far next ≡ word ∷ [] → left_after pair_forms word ≡ []
+pub pair_left_none : (next : OpeningWords) (word : List ℕ) → BeginsOpening next → opening_so_far next ≡ word ∷ []
+    → left_after pair_forms word ≡ []
 unfolding pair_forms fits
 pair_left_none opening.Pair word begins is = ap (left_after pair_forms) (sym (one_word (codes "pair") word is))
 pair_left_none opening.Nodes word begins is = ap (left_after pair_forms) (sym (one_word (codes "nodes") word is))
 pair_left_none (opening.Whole f) word begins is = absurd begins
 
-pub no_opening_left : (word : List ℕ) → ((next : OpeningWords) → BeginsOpening next → opening_so_far next ≢ word ∷ []) → left_after opening_forms word ≡ []
+pub no_opening_left : (word : List ℕ) → ((next : OpeningWords) → BeginsOpening next → opening_so_far next ≢ word ∷ [])
+    → left_after opening_forms word ≡ []
 unfolding opening_forms
 no_opening_left word none =
-    let no_pair : fits (the (codes "pair")) word ≡ false = other_than (codes "pair") word (λ is. none opening.Pair tt (ap (λ t. t ∷ []) (sym is))) in
-    let no_nodes : fits (the (codes "nodes")) word ≡ false = other_than (codes "nodes") word (λ is. none opening.Nodes tt (ap (λ t. t ∷ []) (sym is))) in
+    let no_pair = other_first (codes "pair") word (none opening.Pair tt) in
+    let no_nodes = other_first (codes "nodes") word (none opening.Nodes tt) in
     none_left opening_forms word (no_pair, (no_nodes, tt))
 
 -- and of a pair's events
-pub pair_left_of : (next : PairWords) (word : List ℕ) → BeginsPair next → pair_so_far next ≡ word ∷ [] → left_after pair_forms word ≡ pair_left next
+pub pair_left_of : (next : PairWords) (word : List ℕ) → BeginsPair next → pair_so_far next ≡ word ∷ []
+    → left_after pair_forms word ≡ pair_left next
 unfolding pair_forms fits
 pair_left_of pair.Act word begins is = ap (left_after pair_forms) (sym (one_word (codes "act") word is))
 pair_left_of pair.Tick word begins is = ap (left_after pair_forms) (sym (one_word (codes "tick") word is))
@@ -119,14 +173,15 @@ pair_left_of (pair.Whole (event.Tick s)) word begins is = absurd begins
 pair_left_of (pair.Whole (event.Choose v)) word begins is = absurd begins
 pair_left_of (pair.Whole (event.Deliver n)) word begins is = absurd begins
 
-pub no_pair_left : (word : List ℕ) → ((next : PairWords) → BeginsPair next → pair_so_far next ≢ word ∷ []) → left_after pair_forms word ≡ []
+pub no_pair_left : (word : List ℕ) → ((next : PairWords) → BeginsPair next → pair_so_far next ≢ word ∷ [])
+    → left_after pair_forms word ≡ []
 unfolding pair_forms
 no_pair_left word none =
-    let act_other : fits (the (codes "act")) word ≡ false = other_than (codes "act") word (λ is. none pair.Act tt (ap (λ t. t ∷ []) (sym is))) in
-    let tick_other : fits (the (codes "tick")) word ≡ false = other_than (codes "tick") word (λ is. none pair.Tick tt (ap (λ t. t ∷ []) (sym is))) in
-    let choose_other : fits (the (codes "choose")) word ≡ false = other_than (codes "choose") word (λ is. none pair.Choose tt (ap (λ t. t ∷ []) (sym is))) in
-    let complete_other : fits (the (codes "complete")) word ≡ false = other_than (codes "complete") word (λ is. none (pair.Whole event.Complete) tt (ap (λ t. t ∷ []) (sym is))) in
-    let deliver_other : fits (the (codes "deliver")) word ≡ false = other_than (codes "deliver") word (λ is. none pair.Deliver tt (ap (λ t. t ∷ []) (sym is))) in
+    let act_other = other_first (codes "act") word (none pair.Act tt) in
+    let tick_other = other_first (codes "tick") word (none pair.Tick tt) in
+    let choose_other = other_first (codes "choose") word (none pair.Choose tt) in
+    let complete_other = other_first (codes "complete") word (none (pair.Whole event.Complete) tt) in
+    let deliver_other = other_first (codes "deliver") word (none pair.Deliver tt) in
     none_left pair_forms word (act_other, (tick_other, (choose_other, (complete_other, (deliver_other, tt)))))
 
 -- where two lists of forms stand together
@@ -154,17 +209,20 @@ pub world_if_some : (r : Option WorldWords) (word : List ℕ) → IfSome r (λ n
 world_if_some None word is begins = tt
 world_if_some (Some next) word is begins = world_left_of next word begins is
 
-pub world_if_none : (r : Option WorldWords) (word : List ℕ) → IfNone r ((next : WorldWords) → BeginsWorld next → world_so_far next ≢ word ∷ [])
+pub world_if_none : (r : Option WorldWords) (word : List ℕ) → IfNone r ((next : WorldWords) → BeginsWorld next
+    → world_so_far next ≢ word ∷ [])
     → IfNone r (left_after world_forms word ≡ [])
 world_if_none None word none = no_world_left word none
 world_if_none (Some next) word none = tt
 
-pub opening_if_some : (r : Option OpeningWords) (word : List ℕ) → IfSome r (λ next. opening_so_far next ≡ word ∷ []) → IfSome r BeginsOpening
+pub opening_if_some : (r : Option OpeningWords) (word : List ℕ) → IfSome r (λ next. opening_so_far next ≡ word ∷ [])
+    → IfSome r BeginsOpening
     → IfSome r (λ next. left_after opening_forms word ≡ opening_left next)
 opening_if_some None word is begins = tt
 opening_if_some (Some next) word is begins = opening_left_of next word begins is
 
-pub opening_if_none : (r : Option OpeningWords) (word : List ℕ) → IfNone r ((next : OpeningWords) → BeginsOpening next → opening_so_far next ≢ word ∷ [])
+pub opening_if_none : (r : Option OpeningWords) (word : List ℕ) → IfNone r ((next : OpeningWords) → BeginsOpening next
+    → opening_so_far next ≢ word ∷ [])
     → IfNone r (left_after opening_forms word ≡ [])
 opening_if_none None word none = no_opening_left word none
 opening_if_none (Some next) word none = tt
@@ -179,7 +237,8 @@ pub pair_if_none : (r : Option PairWords) (word : List ℕ) → IfNone r ((next 
 pair_if_none None word none = no_pair_left word none
 pair_if_none (Some next) word none = tt
 
-pub opening_if_alone : (r : Option OpeningWords) (word : List ℕ) → IfSome r (λ next. opening_so_far next ≡ word ∷ []) → IfSome r BeginsOpening
+pub opening_if_alone : (r : Option OpeningWords) (word : List ℕ) → IfSome r (λ next. opening_so_far next ≡ word ∷ [])
+    → IfSome r BeginsOpening
     → IfSome r (λ next. left_after pair_forms word ≡ [])
 opening_if_alone None word is begins = tt
 opening_if_alone (Some next) word is begins = pair_left_none next word begins is

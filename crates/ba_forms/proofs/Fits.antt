@@ -99,7 +99,8 @@ abbrev pub SomeWord : List ℕ → List (List ℕ) → Type 0
 SomeWord word [] = ⊥
 SomeWord word (w ∷ ws) = (word ≡ w) ⊎ SomeWord word ws
 
-by_same : (w : List ℕ) (ws : List (List ℕ)) (word : List ℕ) → (is_one_of ws word ≡ true → SomeWord word ws) → (t : Bool) → pointwise nat_eq word w ≡ t
+by_same : (w : List ℕ) (ws : List (List ℕ)) (word : List ℕ) → (is_one_of ws word ≡ true → SomeWord word ws) → (t : Bool)
+    → pointwise nat_eq word w ≡ t
     → (t || is_one_of ws word) ≡ true → (word ≡ w) ⊎ SomeWord word ws
 by_same w ws word others true same holds = inl ((bytes_decides word w).0 same)
 by_same w ws word others false same holds = inr (others holds)

@@ -124,7 +124,16 @@ world_fits (world.Act i a) written =
 world_fits (world.Ask i) written =
     inr (inr (inr (inr (inr (inr (inr (inr (inr (inr (inl (the_fits _ _ refl, (name_fits i _ refl, tt))))))))))))
 world_fits (world.Decide i v) written =
-    inr (inr (inr (inr (inr (inr (inr (inr (inr (inr (inr (inl (the_fits _ _ refl, (name_fits i _ refl, (verdict_fits v _ refl, tt))))))))))))))
+    inr (inr (inr (inr (inr (inr (inr (inr (inr (inr (inr (inl (
+      the_fits _ _ refl,
+      (
+        name_fits i _ refl,
+        (
+          verdict_fits v _ refl,
+          tt,
+        ),
+      ),
+    ))))))))))))
 world_fits (world.Choose i v) written =
     inr (inr (inr (inr (inr (inr (inr (inr (inr (inr (inr (inr (inl (
       the_fits _ _ refl,

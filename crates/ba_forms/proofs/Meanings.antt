@@ -12,7 +12,8 @@ use Rattle.ba_forms.proofs.Fitting.{opening_fits, pair_fits, world_fits}
 use Rattle.ba_forms.proofs.Told.{form_chosen, pair_told, world_told}
 
 -- words of which none is bad say something
-words_say : (chosen : Option Form) (line : List ℕ) → SomeFits (forms_at chosen) (words_of line) → (r : Reading) × MayStand chosen r × Says r line
+words_say : (chosen : Option Form) (line : List ℕ) → SomeFits (forms_at chosen) (words_of line)
+    → (r : Reading) × MayStand chosen r × Says r line
 words_say None line some =
     elim (fits_either opening_forms pair_forms (words_of line) some) [
       | inl opening ↦ let told = form_chosen (words_of line) opening in (Opening told.0, refl, (told.1, told.2))
@@ -51,20 +52,23 @@ by_remark : (chosen : Option Form) (byte : ℕ) (bytes : List ℕ) (t : Bool) �
 by_remark chosen byte bytes true is words = (Nothing, tt, eqb-true byte 35 is)
 by_remark chosen byte bytes false is words = words
 
-by_words : (chosen : Option Form) (line : List ℕ) (bad : Option ℕ) → bad_word (forms_at chosen) (words_of line) 1 ≡ bad → Decided chosen line bad
+by_words : (chosen : Option Form) (line : List ℕ) (bad : Option ℕ) → bad_word (forms_at chosen) (words_of line) 1 ≡ bad
+    → Decided chosen line bad
 by_words chosen line (Some column) is = tt
 by_words chosen line None is = words_say chosen line (accepted (words_of line) (forms_at chosen) 1 is)
 
 short_line : (chosen : Option Form) (line : List ℕ) → Decided chosen line (bad_unless_remark chosen line)
 short_line chosen [] = (Nothing, tt, tt)
 short_line chosen (byte ∷ bytes) =
-    by_remark chosen byte bytes (nat_eq byte 35) refl (by_words chosen (byte ∷ bytes) (bad_word (forms_at chosen) (words_of (byte ∷ bytes)) 1) refl)
+    by_remark chosen byte bytes (nat_eq byte 35) refl (by_words chosen (byte ∷ bytes) (bad_word (forms_at chosen) (words_of (byte
+    ∷ bytes)) 1) refl)
 
 -- a line says something, or is bad at a column
 abbrev pub LineMeans : Option Form → List ℕ → Type 0
 LineMeans chosen line = ((r : Reading) × IsLine chosen r line) ⊎ ((column : ℕ) × (bad_column chosen line ≡ Some column))
 
-by_bad : (chosen : Option Form) (line : List ℕ) (bad : Option ℕ) → length line ≤ 256 → bad_column chosen line ≡ bad → Decided chosen line bad
+by_bad : (chosen : Option Form) (line : List ℕ) (bad : Option ℕ) → length line ≤ 256 → bad_column chosen line ≡ bad
+    → Decided chosen line bad
     → LineMeans chosen line
 by_bad chosen line None short is (r, stands, says) = inl (r, record { short = short; stands = stands; says = says })
 by_bad chosen line (Some column) short is decided = inr (column, is)
@@ -80,7 +84,8 @@ by_length chosen line false is =
 pub line_means : (chosen : Option Form) (line : List ℕ) → LineMeans chosen line
 line_means chosen line = by_length chosen line (nat_lt 256 (length line)) refl
 
-good_or_remark : (chosen : Option Form) (line : List ℕ) → bad_word (forms_at chosen) (words_of line) 1 ≡ None → bad_unless_remark chosen line ≡ None
+good_or_remark : (chosen : Option Form) (line : List ℕ) → bad_word (forms_at chosen) (words_of line) 1 ≡ None
+    → bad_unless_remark chosen line ≡ None
 good_or_remark chosen [] good = refl
 good_or_remark chosen (byte ∷ bytes) good =
     elim (nat_eq byte 35) as (λ t. (if t then None else bad_word (forms_at chosen) (words_of (byte ∷ bytes)) 1) ≡ None) [
@@ -93,11 +98,14 @@ nothing_good chosen [] says = refl
 nothing_good chosen (byte ∷ bytes) says =
     ap (λ b. if nat_eq b 35 then None else bad_word (forms_at chosen) (words_of (byte ∷ bytes)) 1) says
 
-said_unless : (chosen : Option Form) (r : Reading) (line : List ℕ) → MayStand chosen r → Says r line → bad_unless_remark chosen line ≡ None
+said_unless : (chosen : Option Form) (r : Reading) (line : List ℕ) → MayStand chosen r → Says r line
+    → bad_unless_remark chosen line ≡ None
 said_unless chosen Nothing line stands says = nothing_good chosen line says
-said_unless chosen (Opening f) line stands says = good_or_remark chosen line (said_is_good chosen (Opening f) line stands says (λ h. absurd cc))
+said_unless chosen (Opening f) line stands says = good_or_remark chosen line (said_is_good chosen (Opening f) line stands says
+    (λ h. absurd cc))
 said_unless chosen (Pair e) line stands says = good_or_remark chosen line (said_is_good chosen (Pair e) line stands says (λ h. absurd cc))
-said_unless chosen (World e) line stands says = good_or_remark chosen line (said_is_good chosen (World e) line stands says (λ h. absurd cc))
+said_unless chosen (World e) line stands says = good_or_remark chosen line (said_is_good chosen (World e) line stands says
+    (λ h. absurd cc))
 
 short_test : (n : ℕ) → n ≤ 256 → (t : Bool) → nat_lt 256 n ≡ t → nat_lt 256 n ≡ false
 short_test n short true is = absurd (omega (arith, ltb-true 256 n is))

@@ -85,12 +85,14 @@ pub decimal_lacks : (byte n : ℕ) → byte < 48 → n < 2 ^ 64 → Lacks byte (
 decimal_lacks byte n low small = digits_lack byte (decimal n) low (decimal_is_IsNumeral n small).0.1
 
 -- the parts of a name
-pub name_parts : (node counter : ℕ) → node < 2 ^ 32 → counter < 2 ^ 64 → parted 46 (decimal node ++ (46 ∷ decimal counter)) ≡ decimal node ∷ decimal counter ∷ []
+pub name_parts : (node counter : ℕ) → node < 2 ^ 32 → counter < 2 ^ 64 → parted 46 (decimal node ++ (46
+    ∷ decimal counter)) ≡ decimal node ∷ decimal counter ∷ []
 name_parts node counter low small =
     part_ended 46 (decimal node) (decimal counter) (decimal_lacks 46 node (omega arith) (omega arith))
     ∙ ap (λ ws. decimal node ∷ ws) (part_last 46 (decimal counter) (decimal_lacks 46 counter (omega arith) small))
 
-pub written_name_fits : (node counter : ℕ) (word : List ℕ) → node < 2 ^ 32 → counter < 2 ^ 64 → word ≡ decimal node ++ (46 ∷ decimal counter)
+pub written_name_fits : (node counter : ℕ) (word : List ℕ) → node < 2 ^ 32 → counter < 2 ^ 64 → word ≡ decimal node ++ (46
+    ∷ decimal counter)
     → fits name word ≡ true
 unfolding fits
 written_name_fits node counter word low small is =
@@ -130,7 +132,8 @@ pub name_of_fit : (word : List ℕ) → fits name word ≡ true → IsName (part
 unfolding fits
 name_of_fit word holds = parts_name (parted 46 word) holds
 
-pub no_name : (word : List ℕ) → ((node counter : ℕ) → node < 2 ^ 32 → counter < 2 ^ 64 → word ≢ decimal node ++ (codes "." ++ decimal counter))
+pub no_name : (word : List ℕ) → ((node counter : ℕ) → node < 2 ^ 32 → counter < 2 ^ 64
+    → word ≢ decimal node ++ (codes "." ++ decimal counter))
     → fits name word ≡ false
 no_name word none =
     not_true (fits name word)
@@ -153,7 +156,8 @@ pub record NamesObject (word : List ℕ) : Type 0 where
   pub is : word ≡ id_text id.0
   pub object : IsObject id
 
-named : (node counter : ℕ) (word : List ℕ) → node < 2 ^ 32 → counter < 2 ^ 64 → word ≡ decimal node ++ (46 ∷ decimal counter) → NamesObject word
+named : (node counter : ℕ) (word : List ℕ) → node < 2 ^ 32 → counter < 2 ^ 64 → word ≡ decimal node ++ (46 ∷ decimal counter)
+    → NamesObject word
 named node counter word low small is =
     let number : node_of (id_of node counter) ≡ node = omega arith in
     let count : counter_of (id_of node counter) ≡ counter = omega arith in

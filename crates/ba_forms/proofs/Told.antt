@@ -149,7 +149,8 @@ world_expires words fit =
     p2.is ∙ ap (λ (w : List ℕ). w ∷ p2.others) f2.1 ∙ ap (λ (ws : List (List ℕ)). (kind_word f2.0) ∷ ws) (w3) in
     let w1 : p0.others ≡ decimal (digits_value 10 p1.word) ∷ kind_word f2.0 ∷ codes "expires" ∷ decimal (digits_value 10 p4.word) ∷ [] =
     p1.is ∙ ap (λ (w : List ℕ). w ∷ p1.others) f1.0 ∙ ap (λ (ws : List (List ℕ)). (decimal (digits_value 10 p1.word)) ∷ ws) (w2) in
-    let w0 : words ≡ codes "create" ∷ decimal (digits_value 10 p1.word) ∷ kind_word f2.0 ∷ codes "expires" ∷ decimal (digits_value 10 p4.word) ∷ [] =
+    let w0 : words ≡ codes "create" ∷ decimal (digits_value 10 p1.word) ∷ kind_word f2.0 ∷ codes "expires"
+    ∷ decimal (digits_value 10 p4.word) ∷ [] =
     p0.is ∙ ap (λ (w : List ℕ). w ∷ p0.others) f0 ∙ ap (λ (ws : List (List ℕ)). (codes "create") ∷ ws) (w1) in
     (world.Create (digits_value 10 p1.word) f2.0 None (Some (digits_value 10 p4.word)), w0, (omega arith, tt, omega arith))
 
@@ -179,10 +180,12 @@ world_under words fit =
     p0.is ∙ ap (λ (w : List ℕ). w ∷ p0.others) f0 ∙ ap (λ (ws : List (List ℕ)). (codes "create") ∷ ws) (w1) in
     (world.Create (digits_value 10 p1.word) f2.0 (Some (f4.id, Pc)) None, w0, (omega arith, f4.object, tt))
 
-world_under_expires : (words : List (List ℕ)) → AllFit (the (codes "create") ∷ a_node ∷ a_kind ∷ the (codes "under") ∷ name ∷ the (codes "expires") ∷ a_time ∷ []) words
+world_under_expires : (words : List (List ℕ)) → AllFit (the (codes "create") ∷ a_node ∷ a_kind ∷ the (codes "under") ∷ name
+    ∷ the (codes "expires") ∷ a_time ∷ []) words
     → (e : Event) × (words ≡ world_words e) × IsWritten e
 world_under_expires words fit =
-    let p0 = first_fitting (the (codes "create")) (a_node ∷ a_kind ∷ the (codes "under") ∷ name ∷ the (codes "expires") ∷ a_time ∷ []) words fit in
+    let p0 = first_fitting (the (codes "create")) (a_node ∷ a_kind ∷ the (codes "under") ∷ name ∷ the (codes "expires") ∷ a_time
+    ∷ []) words fit in
     let f0 : p0.word ≡ codes "create" = is_the (codes "create") p0.word p0.fit in
     let p1 = first_fitting a_node (a_kind ∷ the (codes "under") ∷ name ∷ the (codes "expires") ∷ a_time ∷ []) p0.others p0.rest in
     let f1 = number_of_fit 0 most_32 p1.word p1.fit in
@@ -207,13 +210,23 @@ world_under_expires words fit =
     p3.is ∙ ap (λ (w : List ℕ). w ∷ p3.others) f3 ∙ ap (λ (ws : List (List ℕ)). (codes "under") ∷ ws) (w4) in
     let w2 : p1.others ≡ kind_word f2.0 ∷ codes "under" ∷ id_text f4.id.0 ∷ codes "expires" ∷ decimal (digits_value 10 p6.word) ∷ [] =
     p2.is ∙ ap (λ (w : List ℕ). w ∷ p2.others) f2.1 ∙ ap (λ (ws : List (List ℕ)). (kind_word f2.0) ∷ ws) (w3) in
-    let w1 : p0.others ≡ decimal (digits_value 10 p1.word) ∷ kind_word f2.0 ∷ codes "under" ∷ id_text f4.id.0 ∷ codes "expires" ∷ decimal (digits_value 10 p6.word) ∷ [] =
+    let w1 : p0.others ≡ decimal (digits_value 10 p1.word) ∷ kind_word f2.0 ∷ codes "under" ∷ id_text f4.id.0 ∷ codes "expires"
+    ∷ decimal (digits_value 10 p6.word) ∷ [] =
     p1.is ∙ ap (λ (w : List ℕ). w ∷ p1.others) f1.0 ∙ ap (λ (ws : List (List ℕ)). (decimal (digits_value 10 p1.word)) ∷ ws) (w2) in
-    let w0 : words ≡ codes "create" ∷ decimal (digits_value 10 p1.word) ∷ kind_word f2.0 ∷ codes "under" ∷ id_text f4.id.0 ∷ codes "expires" ∷ decimal (digits_value 10 p6.word) ∷ [] =
-    p0.is ∙ ap (λ (w : List ℕ). w ∷ p0.others) f0 ∙ ap (λ (ws : List (List ℕ)). (codes "create") ∷ ws) (w1) in
-    (world.Create (digits_value 10 p1.word) f2.0 (Some (f4.id, Pc)) (Some (digits_value 10 p6.word)), w0, (omega arith, f4.object, omega arith))
+    let w0 : words ≡ codes "create" ∷ decimal (digits_value 10 p1.word) ∷ kind_word f2.0 ∷ codes "under" ∷ id_text f4.id.0
+    ∷ codes "expires" ∷ decimal (digits_value 10 p6.word) ∷ [] =
+    p0.is ∙ ap (λ (w : List ℕ). w ∷ p0.others) f0 ∙ ap (λ (ws : List (List ℕ)). (codes "create") ∷ ws) (w1) in (
+      world.Create (digits_value 10 p1.word) f2.0 (Some (f4.id, Pc)) (Some (digits_value 10 p6.word)),
+      w0,
+      (
+        omega arith,
+        f4.object,
+        omega arith,
+      ),
+    )
 
-world_cc : (words : List (List ℕ)) → AllFit (the (codes "create") ∷ a_node ∷ a_kind ∷ the (codes "under") ∷ name ∷ the (codes "cc") ∷ []) words
+world_cc : (words : List (List ℕ)) → AllFit (the (codes "create") ∷ a_node ∷ a_kind ∷ the (codes "under") ∷ name ∷ the (codes "cc")
+    ∷ []) words
     → (e : Event) × (words ≡ world_words e) × IsWritten e
 world_cc words fit =
     let p0 = first_fitting (the (codes "create")) (a_node ∷ a_kind ∷ the (codes "under") ∷ name ∷ the (codes "cc") ∷ []) words fit in
@@ -238,18 +251,23 @@ world_cc words fit =
     p2.is ∙ ap (λ (w : List ℕ). w ∷ p2.others) f2.1 ∙ ap (λ (ws : List (List ℕ)). (kind_word f2.0) ∷ ws) (w3) in
     let w1 : p0.others ≡ decimal (digits_value 10 p1.word) ∷ kind_word f2.0 ∷ codes "under" ∷ id_text f4.id.0 ∷ codes "cc" ∷ [] =
     p1.is ∙ ap (λ (w : List ℕ). w ∷ p1.others) f1.0 ∙ ap (λ (ws : List (List ℕ)). (decimal (digits_value 10 p1.word)) ∷ ws) (w2) in
-    let w0 : words ≡ codes "create" ∷ decimal (digits_value 10 p1.word) ∷ kind_word f2.0 ∷ codes "under" ∷ id_text f4.id.0 ∷ codes "cc" ∷ [] =
+    let w0 : words ≡ codes "create" ∷ decimal (digits_value 10 p1.word) ∷ kind_word f2.0 ∷ codes "under" ∷ id_text f4.id.0
+    ∷ codes "cc" ∷ [] =
     p0.is ∙ ap (λ (w : List ℕ). w ∷ p0.others) f0 ∙ ap (λ (ws : List (List ℕ)). (codes "create") ∷ ws) (w1) in
     (world.Create (digits_value 10 p1.word) f2.0 (Some (f4.id, Cc)) None, w0, (omega arith, f4.object, tt))
 
-world_cc_expires : (words : List (List ℕ)) → AllFit (the (codes "create") ∷ a_node ∷ a_kind ∷ the (codes "under") ∷ name ∷ the (codes "cc") ∷ the (codes "expires") ∷ a_time ∷ []) words
+world_cc_expires : (words : List (List ℕ)) → AllFit (the (codes "create") ∷ a_node ∷ a_kind ∷ the (codes "under") ∷ name
+    ∷ the (codes "cc") ∷ the (codes "expires") ∷ a_time ∷ []) words
     → (e : Event) × (words ≡ world_words e) × IsWritten e
 world_cc_expires words fit =
-    let p0 = first_fitting (the (codes "create")) (a_node ∷ a_kind ∷ the (codes "under") ∷ name ∷ the (codes "cc") ∷ the (codes "expires") ∷ a_time ∷ []) words fit in
+    let p0 = first_fitting (the (codes "create")) (a_node ∷ a_kind ∷ the (codes "under") ∷ name ∷ the (codes "cc")
+    ∷ the (codes "expires") ∷ a_time ∷ []) words fit in
     let f0 : p0.word ≡ codes "create" = is_the (codes "create") p0.word p0.fit in
-    let p1 = first_fitting a_node (a_kind ∷ the (codes "under") ∷ name ∷ the (codes "cc") ∷ the (codes "expires") ∷ a_time ∷ []) p0.others p0.rest in
+    let p1 = first_fitting a_node (a_kind ∷ the (codes "under") ∷ name ∷ the (codes "cc") ∷ the (codes "expires") ∷ a_time
+    ∷ []) p0.others p0.rest in
     let f1 = number_of_fit 0 most_32 p1.word p1.fit in
-    let p2 = first_fitting a_kind (the (codes "under") ∷ name ∷ the (codes "cc") ∷ the (codes "expires") ∷ a_time ∷ []) p1.others p1.rest in
+    let p2 = first_fitting a_kind (the (codes "under") ∷ name ∷ the (codes "cc") ∷ the (codes "expires") ∷ a_time
+    ∷ []) p1.others p1.rest in
     let f2 = kind_of_fit p2.word p2.fit in
     let p3 = first_fitting (the (codes "under")) (name ∷ the (codes "cc") ∷ the (codes "expires") ∷ a_time ∷ []) p2.others p2.rest in
     let f3 : p3.word ≡ codes "under" = is_the (codes "under") p3.word p3.fit in
@@ -272,13 +290,23 @@ world_cc_expires words fit =
     p4.is ∙ ap (λ (w : List ℕ). w ∷ p4.others) f4.is ∙ ap (λ (ws : List (List ℕ)). (id_text f4.id.0) ∷ ws) (w5) in
     let w3 : p2.others ≡ codes "under" ∷ id_text f4.id.0 ∷ codes "cc" ∷ codes "expires" ∷ decimal (digits_value 10 p7.word) ∷ [] =
     p3.is ∙ ap (λ (w : List ℕ). w ∷ p3.others) f3 ∙ ap (λ (ws : List (List ℕ)). (codes "under") ∷ ws) (w4) in
-    let w2 : p1.others ≡ kind_word f2.0 ∷ codes "under" ∷ id_text f4.id.0 ∷ codes "cc" ∷ codes "expires" ∷ decimal (digits_value 10 p7.word) ∷ [] =
+    let w2 : p1.others ≡ kind_word f2.0 ∷ codes "under" ∷ id_text f4.id.0 ∷ codes "cc" ∷ codes "expires"
+    ∷ decimal (digits_value 10 p7.word) ∷ [] =
     p2.is ∙ ap (λ (w : List ℕ). w ∷ p2.others) f2.1 ∙ ap (λ (ws : List (List ℕ)). (kind_word f2.0) ∷ ws) (w3) in
-    let w1 : p0.others ≡ decimal (digits_value 10 p1.word) ∷ kind_word f2.0 ∷ codes "under" ∷ id_text f4.id.0 ∷ codes "cc" ∷ codes "expires" ∷ decimal (digits_value 10 p7.word) ∷ [] =
+    let w1 : p0.others ≡ decimal (digits_value 10 p1.word) ∷ kind_word f2.0 ∷ codes "under" ∷ id_text f4.id.0 ∷ codes "cc"
+    ∷ codes "expires" ∷ decimal (digits_value 10 p7.word) ∷ [] =
     p1.is ∙ ap (λ (w : List ℕ). w ∷ p1.others) f1.0 ∙ ap (λ (ws : List (List ℕ)). (decimal (digits_value 10 p1.word)) ∷ ws) (w2) in
-    let w0 : words ≡ codes "create" ∷ decimal (digits_value 10 p1.word) ∷ kind_word f2.0 ∷ codes "under" ∷ id_text f4.id.0 ∷ codes "cc" ∷ codes "expires" ∷ decimal (digits_value 10 p7.word) ∷ [] =
-    p0.is ∙ ap (λ (w : List ℕ). w ∷ p0.others) f0 ∙ ap (λ (ws : List (List ℕ)). (codes "create") ∷ ws) (w1) in
-    (world.Create (digits_value 10 p1.word) f2.0 (Some (f4.id, Cc)) (Some (digits_value 10 p7.word)), w0, (omega arith, f4.object, omega arith))
+    let w0 : words ≡ codes "create" ∷ decimal (digits_value 10 p1.word) ∷ kind_word f2.0 ∷ codes "under" ∷ id_text f4.id.0
+    ∷ codes "cc" ∷ codes "expires" ∷ decimal (digits_value 10 p7.word) ∷ [] =
+    p0.is ∙ ap (λ (w : List ℕ). w ∷ p0.others) f0 ∙ ap (λ (ws : List (List ℕ)). (codes "create") ∷ ws) (w1) in (
+      world.Create (digits_value 10 p1.word) f2.0 (Some (f4.id, Cc)) (Some (digits_value 10 p7.word)),
+      w0,
+      (
+        omega arith,
+        f4.object,
+        omega arith,
+      ),
+    )
 
 world_join : (words : List (List ℕ)) → AllFit (the (codes "join") ∷ a_node ∷ a_protocol ∷ name ∷ []) words
     → (e : Event) × (words ≡ world_words e) × IsWritten e
@@ -553,10 +581,17 @@ world_told words (inr (inr (inr (inr (inr (inr (inr (inr (inr (inr (inr (inl fit
 world_told words (inr (inr (inr (inr (inr (inr (inr (inr (inr (inr (inr (inr (inl fit))))))))))))) = world_choose words fit
 world_told words (inr (inr (inr (inr (inr (inr (inr (inr (inr (inr (inr (inr (inr (inl fit)))))))))))))) = world_complete words fit
 world_told words (inr (inr (inr (inr (inr (inr (inr (inr (inr (inr (inr (inr (inr (inr (inl fit))))))))))))))) = world_finish words fit
-world_told words (inr (inr (inr (inr (inr (inr (inr (inr (inr (inr (inr (inr (inr (inr (inr (inl fit)))))))))))))))) = world_leave words fit
-world_told words (inr (inr (inr (inr (inr (inr (inr (inr (inr (inr (inr (inr (inr (inr (inr (inr (inl fit))))))))))))))))) = world_wait words fit
-world_told words (inr (inr (inr (inr (inr (inr (inr (inr (inr (inr (inr (inr (inr (inr (inr (inr (inr (inl fit)))))))))))))))))) = world_crash words fit
-world_told words (inr (inr (inr (inr (inr (inr (inr (inr (inr (inr (inr (inr (inr (inr (inr (inr (inr (inr (inl fit))))))))))))))))))) = world_crashat words fit
-world_told words (inr (inr (inr (inr (inr (inr (inr (inr (inr (inr (inr (inr (inr (inr (inr (inr (inr (inr (inr (inl fit)))))))))))))))))))) = world_fail words fit
-world_told words (inr (inr (inr (inr (inr (inr (inr (inr (inr (inr (inr (inr (inr (inr (inr (inr (inr (inr (inr (inr (inl fit))))))))))))))))))))) = world_open words fit
-world_told words (inr (inr (inr (inr (inr (inr (inr (inr (inr (inr (inr (inr (inr (inr (inr (inr (inr (inr (inr (inr (inr none))))))))))))))))))))) = absurd none
+world_told words (inr (inr (inr (inr (inr (inr (inr (inr (inr (inr (inr (inr (inr (inr (inr
+    (inl fit)))))))))))))))) = world_leave words fit
+world_told words (inr (inr (inr (inr (inr (inr (inr (inr (inr (inr (inr (inr (inr (inr (inr (inr
+    (inl fit))))))))))))))))) = world_wait words fit
+world_told words (inr (inr (inr (inr (inr (inr (inr (inr (inr (inr (inr (inr (inr (inr (inr (inr (inr
+    (inl fit)))))))))))))))))) = world_crash words fit
+world_told words (inr (inr (inr (inr (inr (inr (inr (inr (inr (inr (inr (inr (inr (inr (inr (inr (inr (inr
+    (inl fit))))))))))))))))))) = world_crashat words fit
+world_told words (inr (inr (inr (inr (inr (inr (inr (inr (inr (inr (inr (inr (inr (inr (inr (inr (inr (inr (inr
+    (inl fit)))))))))))))))))))) = world_fail words fit
+world_told words (inr (inr (inr (inr (inr (inr (inr (inr (inr (inr (inr (inr (inr (inr (inr (inr (inr (inr (inr (inr
+    (inl fit))))))))))))))))))))) = world_open words fit
+world_told words (inr (inr (inr (inr (inr (inr (inr (inr (inr (inr (inr (inr (inr (inr (inr (inr (inr (inr (inr (inr
+    (inr none))))))))))))))))))))) = absurd none

@@ -19,7 +19,8 @@ use Rattle.ba_forms.proofs.Names.{Lacks, part_ended, part_last}
 
 -- the first word of bytes
 
-pub word_ended : (bytes : List ℕ) (n : ℕ) → n < length bytes → slice_index bytes n ≡ 32 → All (λ b. b ≢ 32) (take n bytes) → FirstWord bytes n
+pub word_ended : (bytes : List ℕ) (n : ℕ) → n < length bytes → slice_index bytes n ≡ 32 → All (λ b. b ≢ 32) (take n bytes)
+    → FirstWord bytes n
 word_ended bytes n within space clear_at =
     let clear : Lacks 32 (take n bytes) = recursion_from_All (λ b. b ≢ 32) (take n bytes) clear_at in
     let rest : drop n bytes ≡ 32 ∷ drop (n + 1) bytes = drop_more bytes n 0 within ∙ ap (λ c. c ∷ drop (n + 1) bytes) space in
@@ -114,7 +115,8 @@ some_left (line.World words) = world_some words
 
 -- the next word
 
-goes_on : (forms next : List (List Slot)) (word : List ℕ) (words : List (List ℕ)) (column : ℕ) → left_after forms word ≡ next → IsSomeForm next
+goes_on : (forms next : List (List Slot)) (word : List ℕ) (words : List (List ℕ)) (column : ℕ) → left_after forms word ≡ next
+    → IsSomeForm next
     → bad_word forms (word ∷ words) column ≡ bad_word next words (column + length word + 1)
 goes_on forms next word words column left some =
     ap (λ n. bad_or n column (bad_word n words (column + length word + 1))) (left ∙ some.is)
@@ -185,7 +187,8 @@ module _ (chosen : Option Form) (bytes rest : List ℕ) (told : LineWords) (colu
     all_told all = sym word_more ∙ ap (λ ws. so_far next ++ ws) (first.last all) ∙ append-nil (so_far next)
 
     -- and one is missing
-    pub short_of : count ≡ length rest → some_ends (forms_left next) ≡ false → bad_word (forms_at chosen) (words_of bytes) 1 ≡ Some (column + count)
+    pub short_of : count ≡ length rest → some_ends (forms_left next) ≡ false
+        → bad_word (forms_at chosen) (words_of bytes) 1 ≡ Some (column + count)
     short_of all none =
         sym bad_more ∙ ap (λ ws. bad_word (forms_left next) ws (column + count + 1)) (first.last all)
         ∙ missing (forms_left next) (column + count + 1) none ∙ ap Some (omega arith)

@@ -7,12 +7,15 @@ returns-in_default-clause-none c = no_number c.args.least c.args.most c.args.wor
 
 pub returns-then-n-least-clause-none : goal.returns-then-n-least-clause-none
 returns-then-n-least-clause-none c =
-    out_of_bounds c.args.least c.args.most c.in-Some.n c.args.word.now c.in-Some.ensures.some.0 c.in-Some.ensures.some.1 (λ above below. omega arith)
+    out_of_bounds c.args.least c.args.most c.in-Some.n c.args.word.now c.in-Some.ensures.some.0 c.in-Some.ensures.some.1
+    (λ above below. omega arith)
 
 pub returns-then-n-most-clause-none : goal.returns-then-n-most-clause-none
 returns-then-n-most-clause-none c =
-    out_of_bounds c.args.least c.args.most c.in-Some.n c.args.word.now c.in-Some.ensures.some.0 c.in-Some.ensures.some.1 (λ above below. omega arith)
+    out_of_bounds c.args.least c.args.most c.in-Some.n c.args.word.now c.in-Some.ensures.some.0 c.in-Some.ensures.some.1
+    (λ above below. omega arith)
 
 pub returns-clause-some : goal.returns-clause-some
 returns-clause-some c =
-    number_fits c.args.least c.args.most c.in-Some.n c.args.word.now c.in-Some.ensures.some.0 c.in-Some.ensures.some.1 (omega arith) (omega arith)
+    number_fits c.args.least c.args.most c.in-Some.n c.args.word.now c.in-Some.ensures.some.0 c.in-Some.ensures.some.1 (omega arith)
+    (omega arith)
