@@ -15,11 +15,10 @@ use Rattle.ba_wire.specs.declared.elements.Family.TheVariants as family
 use Rattle.ba_wire.specs.declared.routes.Route.{Route}
 use Rattle.ba_wire.specs.Elements.{body_of_message, family_of}
 use Rattle.ba_wire.specs.Envelopes.{CanEncode, HasEnvelope, TimesFit, action_for, envelope_of, envelope_text, envelope_tree, fault_action, is_numbered}
-use Rattle.ba_wire.specs.Meaning.{Means, answer_by_envelope, answer_by_reply, answer_by_shape, answer_by_tree, answer_of_body, asks_for_reply, reply_refusal, reply_rule, text_answer, which_body}
+use Rattle.ba_wire.specs.Meaning.{Means, answer_by_envelope, answer_by_reply, answer_by_shape, answer_of_body, asks_for_reply, reply_refusal, reply_rule, which_body}
 use Rattle.ba_wire.proofs.WrittenBodies.{IsReadBack, body_reads_back}
 use Rattle.ba_xml.proofs.RoundTrip.{round_trip}
-use Rattle.ba_xml_reader.proofs.Complete.{complete}
-use Rattle.ba_xml_writer.specs.OneText.{one_text}
+use Rattle.ba_xml_grammar.specs.GrammarTexts.{IsXmlText}
 
 -- ---- actions, which are computed for each message
 
@@ -93,7 +92,5 @@ module _ (r : Route) (m : Message) (has : HasEnvelope r m) (numbered : is_number
 
 pub text_means :
     (r : Route) (m : Message) → CanEncode r m → is_numbered r m ≡ true → TimesFit m
-    → text_answer (envelope_text r m) ≡ Ok (record { route = r; message = m })
-text_means r m can numbered small =
-    ap answer_by_tree (complete (one_text (envelope_tree r m)) (envelope_tree r m) (round_trip (envelope_tree r m) can.writable))
-    ∙ tree_means r m can.envelope numbered small
+    → IsXmlText (envelope_text r m) (envelope_tree r m) × Means soap11 (envelope_tree r m) (record { route = r; message = m })
+text_means r m can numbered small = (round_trip (envelope_tree r m) can.writable, tree_means r m can.envelope numbered small)

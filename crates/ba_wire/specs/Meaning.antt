@@ -21,8 +21,7 @@ use Rattle.ba_wire.specs.declared.meaning.Decoded.{Decoded}
 use Rattle.ba_wire.specs.Actions.{body_name, body_of, body_space, fault_actions}
 use Rattle.ba_wire.specs.Bodies.{body_look, message_of}
 use Rattle.ba_xml_grammar.specs.GrammarTexts.{IsXmlText}
-use Rattle.ba_xml_reader.specs.Machine.{xml_answer}
-use Rattle.ba_xml_reader.specs.Refusals.{IsRefusedAs}
+use Rattle.ba_xml_grammar.specs.Places.{IsRefused, IsAnswerOf}
 use Rattle.ba_xml_words.specs.declared.faults.XmlFault.{XmlFault}
 use Rattle.ba_xml_words.specs.declared.faults.XmlFault.TheVariants as xml
 
@@ -82,20 +81,17 @@ answer_by_envelope d (Ok e) = answer_of_body (which_body d e) e
 abbrev pub tree_answer : Dialect → Tree → Result Decoded WireFault
 tree_answer d t = answer_by_envelope d (envelope_answer d t)
 
--- the answer of bytes: that of their tree, or why they are no text of one
+-- the answer where this is read: that of the tree, or why there is none
 abbrev pub answer_by_tree : Result Tree XmlFault → Result Decoded WireFault
 answer_by_tree (Ok t) = tree_answer soap11 t
 answer_by_tree (Err xml.Memory) = Err fault.Memory
 answer_by_tree (Err (xml.At reason place)) = Err (fault.Xml reason place)
 
-abbrev pub text_answer : List ℕ → Result Decoded WireFault
-text_answer bytes = answer_by_tree (xml_answer bytes)
-
 -- Why bytes are no message: they are no text of XML, or the envelope that they are a text of is refused. Want of memory
 -- says nothing of them.
 abbrev pub IsNoMessage : List ℕ → WireFault → Type 0
 IsNoMessage bytes fault.Memory = ⊥
-IsNoMessage bytes (fault.Xml reason place) = IsRefusedAs bytes reason place
+IsNoMessage bytes (fault.Xml reason place) = IsRefused bytes reason place
 IsNoMessage bytes f = (t : Tree) × IsXmlText bytes t × (tree_answer soap11 t ≡ Err f)
 
 -- an envelope that means a message
@@ -110,3 +106,7 @@ NeverMemory = (d : Dialect) (t : Tree) → tree_answer d t ≢ Err (fault.Soap s
 abbrev pub IsWireAnswer : {X : Type 0} → Result X WireFault → Result X WireFault → Type 0
 IsWireAnswer expected (Err fault.Memory) = Unit {0}
 IsWireAnswer expected answer = answer ≡ expected
+
+-- the answer where the bytes are read as the table of causes and places says, or want of memory
+abbrev pub IsDecodedOf : List ℕ → Result Decoded WireFault → Type 0
+IsDecodedOf bytes result = (read : Result Tree XmlFault) → IsAnswerOf bytes read → IsWireAnswer (answer_by_tree read) result

@@ -7,8 +7,7 @@ ghost use Rattle.ba_wire.specs.Bodies.{body_look, message_of};
 ghost use Rattle.ba_tree.specs.declared.trees.Tree.{Tree};
 ghost use Rattle.ba_wire.specs.declared.meaning.Decoded.{Decoded};
 ghost use Rattle.ba_xml_grammar.specs.GrammarTexts.{IsXmlText};
-ghost use Rattle.ba_xml_reader.specs.Machine.{xml_answer};
-ghost use Rattle.ba_wire.specs.Meaning.{IsNoMessage, answer_by_tree, text_answer, IsWireAnswer, Means, asks_for_reply, answer_of_body, answer_by_envelope, answer_by_reply, answer_by_shape, is_elsewhere, body_named, wire_fault_at, reply_refusal, reply_rule, route_of_envelope, tree_answer, unknown_action_fault, which_body};
+ghost use Rattle.ba_wire.specs.Meaning.{IsNoMessage, IsDecodedOf, IsWireAnswer, answer_by_tree, Means, asks_for_reply, answer_of_body, answer_by_envelope, answer_by_reply, answer_by_shape, is_elsewhere, body_named, wire_fault_at, reply_refusal, reply_rule, route_of_envelope, tree_answer, unknown_action_fault, which_body};
 
 use crate::bodies::Body;
 use crate::faults::WireFault;
@@ -30,7 +29,7 @@ pub struct Decoded {
 
 /// Reads the message that a text of an envelope means.
 pub fn decode(alloc: Global, bytes: &[u8]) -> Result<Decoded, WireFault>
-    ensures answer { IsWireAnswer (text_answer bytes.now) result }
+    ensures answer { IsDecodedOf bytes.now result }
     ensures means { IfOk result (λ decoded. (tree : Tree) × IsXmlText bytes.now tree × Means soap11 tree decoded) }
     ensures only { (tree : Tree) (decoded : Decoded) → IsXmlText bytes.now tree → Means soap11 tree decoded → IsWireAnswer (Ok decoded) result }
     ensures refusal { IfErr result (λ fault. fault ≢ WireFault.Memory → IsNoMessage bytes.now fault) }
@@ -39,12 +38,20 @@ pub fn decode(alloc: Global, bytes: &[u8]) -> Result<Decoded, WireFault>
 }
 
 fn answer_of_text(alloc: Global, bytes: &[u8]) -> Result<Decoded, WireFault>
-    ensures { IsWireAnswer (text_answer bytes.now) result }
+    ensures { IsDecodedOf bytes.now result }
 {
     match read(alloc, bytes) {
-        Err(XmlFault::Memory) => Err(WireFault::Memory),
-        Err(XmlFault::At { reason, place }) => Err(WireFault::Xml { reason, place }),
+        Err(fault) => Err(unread(fault)),
         Ok(tree) => answer(alloc, &tree),
+    }
+}
+
+fn unread(fault: XmlFault) -> WireFault
+    ensures { answer_by_tree (Err fault) ≡ Err result }
+{
+    match fault {
+        XmlFault::Memory => WireFault::Memory,
+        XmlFault::At { reason, place } => WireFault::Xml { reason, place },
     }
 }
 
