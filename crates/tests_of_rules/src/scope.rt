@@ -1,7 +1,6 @@
 //! That a scope enrols where there is memory, until it is full, and the refusals of its calls in their order.
 
 use ba_core::{Id, Kind, Leave, List, Protocol, Verdict};
-use ba_ends::Room;
 use ba_message::Epr;
 use ba_scope::{EnrolFault, Said, Scope};
 use std::alloc::{AllocError, Global};
@@ -14,14 +13,6 @@ fn participant(alloc: Global, number: u32) -> Result<Epr, AllocError> {
         address: List::of(address.into_bytes()),
         parameters: List::new(alloc),
     })
-}
-
-// Room for one end more than the scope has.
-fn room_in(scope: &Scope) -> Result<Room, AllocError> {
-    match scope.room() {
-        Ok(room) => Ok(room),
-        Err(_) => Err(AllocError),
-    }
 }
 
 // Enrols the participant of this number; `None` where the scope has it, or an object of its Id.
@@ -38,7 +29,9 @@ fn enrol(
     if let Some(why) = scope.enrol_refusal() {
         return Ok(Some(Err(why)));
     }
-    let room = room_in(scope)?;
+    let Ok(room) = scope.room() else {
+        return Err(Fail::from(AllocError));
+    };
     scope.enrol(room, id, Protocol::Pc, participant);
     Ok(Some(Ok(())))
 }
