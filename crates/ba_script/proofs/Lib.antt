@@ -1,6 +1,5 @@
 mod Blocks
 mod Feeds
-mod LineCases
 mod OneReading
 mod Progress
 mod SomeReading

@@ -1,31 +1,42 @@
 -- How far a script was read, by its lines.
-use Rattle.std.proofs.Common.{◌≡◌, ℕ, ◌+◌, ◌*◌, ◌<◌, ◌≤◌, true, false, nat_eq, Option, None, unwrap_or, if◌then◌else◌, List, [], ◌∷◌, ◌++◌, length, take, drop, refl, sym, ap, ◌∙◌, subst, inl, inr, append_assoc, append-nil, take-append-drop, take-add, drop-drop, take_all, arith, length-append, length-drop}
-use Rattle.ba_core.specs.declared.protocols.Protocol.{Protocol}
+use Rattle.std.proofs.Common.{◌≡◌, ℕ, ◌+◌, ◌*◌, ◌<◌, ◌≤◌, true, false, nat_eq, Option, None, Some, if◌then◌else◌, List, [], ◌∷◌, ◌++◌, length, take, drop, refl, sym, ap, ◌∙◌, subst, inl, inr, append_assoc, append-nil, take-append-drop, take-add, drop-drop, take_all, arith, length-append, length-drop}
 use Rattle.ba_core.specs.declared.protocols.Protocol.TheVariants.{Pc}
+use Rattle.ba_forms.specs.Readings.{IsLine, bad_column}
+use Rattle.ba_forms.specs.declared.readings.Form.{Form}
+use Rattle.ba_forms.specs.declared.readings.Form.TheVariants as form
+use Rattle.ba_forms.specs.declared.readings.Reading.{Reading}
+use Rattle.ba_forms.specs.declared.readings.Reading.TheVariants as reading
 use Rattle.ba_pair.specs.PairPlay.{Numbered}
-use Rattle.ba_script.specs.declared.readings.Reading.{Reading}
-use Rattle.ba_script.specs.declared.readings.Reading.TheVariants.{Nothing, Form, Event}
 use Rattle.ba_ports.specs.Lines.{onto_first, lines_of, bytes_of}
-use Rattle.ba_script.specs.Scripts.{IsLine, IsBad, form_after, onto_events, MeansEvents, StopsAt, IsPairScript, IsBadScript, IsLongScript}
+use Rattle.ba_script.specs.Scripts.{NumberedEvent, empty_script, form_after, onto_script, MeansScript, StopsAt, IsScript, IsBadScript, IsLongScript}
+use Rattle.ba_script.specs.declared.scripts.Script.{Script}
+use Rattle.ba_script.specs.declared.scripts.Script.TheVariants.{Pair, World}
+use Rattle.ba_script.specs.inside.Events.{pair_event_of, world_event_of, with_events, script_of}
 use Rattle.ba_script.specs.inside.Lines.{LosesLine}
 
 -- so many lines of the text were read, with these events, and this rest of it comes yet
-pub record Progress (text : List ℕ) (form : Option Protocol) (read : ℕ) (rest : List ℕ) (events : List Numbered) : Type 0 where
+pub record Progress (text : List ℕ) (form : Option Form) (read : ℕ) (rest : List ℕ) (pairs : List Numbered)
+    (worlds : List NumberedEvent) : Type 0 where
   pub bytes : (beginning : List ℕ) × (text ≡ beginning ++ rest) × (length beginning ≤ bytes_of (take read (lines_of text)))
   pub short : bytes_of (take read (lines_of text)) ≤ 257 * read
   pub left : drop read (lines_of text) ≡ lines_of rest
-  pub so_far : (lines : List (List ℕ)) (protocol : Protocol) (later : List Numbered) → MeansEvents form (read + 1) lines protocol later
-      → MeansEvents None 1 (take read (lines_of text) ++ lines) protocol (events ++ later)
-  pub none_bad : (lines : List (List ℕ)) (bad : ℕ) → StopsAt form (read + 1) lines bad
-      → StopsAt None 1 (take read (lines_of text) ++ lines) bad
+  pub so_far : (lines : List (List ℕ)) (later : Script) → MeansScript form (read + 1) lines later
+      → MeansScript None 1 (take read (lines_of text) ++ lines) (with_events pairs worlds later)
+  pub none_bad : (lines : List (List ℕ)) (bad column : ℕ) → StopsAt form (read + 1) lines bad column
+      → StopsAt None 1 (take read (lines_of text) ++ lines) bad column
 
-pub begun : (text : List ℕ) → Progress text None 0 text []
+-- nothing before a script is the script
+with_none : (s : Script) → s ≡ with_events [] [] s
+with_none (Pair p later) = refl
+with_none (World n later) = refl
+
+pub begun : (text : List ℕ) → Progress text None 0 text [] []
 begun text = record {
   bytes = ([], refl, omega arith);
   short = omega arith;
   left = refl;
-  so_far = λ lines protocol later means. means;
-  none_bad = λ lines bad stops. stops;
+  so_far = λ lines later means. subst (MeansScript None 1 lines) (with_none later) means;
+  none_bad = λ lines bad column stops. stops;
 }
 
 bytes_of_more : (lines : List (List ℕ)) (line : List ℕ) → bytes_of (lines ++ line ∷ []) ≡ bytes_of lines + (length line + 1)
@@ -39,11 +50,25 @@ take_next all n line later is = take-add n 1 all ∙ ap (λ t. take n all ++ tak
 drop_next : (all : List (List ℕ)) (n : ℕ) (line : List ℕ) (later : List (List ℕ)) → drop n all ≡ line ∷ later → drop (n + 1) all ≡ later
 drop_next all n line later is = sym (drop-drop 1 n all) ∙ ap (drop 1) is
 
-onto_none : (reading : Reading) (number : ℕ) (later : List Numbered)
-    → onto_events reading number [] ++ later ≡ onto_events reading number later
-onto_none Nothing number later = refl
-onto_none (Form p) number later = refl
-onto_none (Event e) number later = refl
+-- the event of a line more
+with_more : (said : Reading) (number : ℕ) (pairs : List Numbered) (worlds : List NumberedEvent) (later : Script)
+    → with_events pairs worlds (onto_script said number later)
+    ≡ with_events (pairs ++ pair_event_of said number) (worlds ++ world_event_of said number) later
+with_more reading.Nothing number pairs worlds (Pair p later) = ap (λ t. Pair p (t ++ later)) (sym (append-nil pairs))
+with_more reading.Nothing number pairs worlds (World n later) = ap (λ t. World n (t ++ later)) (sym (append-nil worlds))
+with_more (reading.Opening f) number pairs worlds (Pair p later) = ap (λ t. Pair p (t ++ later)) (sym (append-nil pairs))
+with_more (reading.Opening f) number pairs worlds (World n later) = ap (λ t. World n (t ++ later)) (sym (append-nil worlds))
+with_more (reading.Pair e) number pairs worlds (Pair p later) = ap (Pair p) (sym (append_assoc pairs ((number, e) ∷ []) later))
+with_more (reading.Pair e) number pairs worlds (World n later) = ap (λ t. World n (t ++ later)) (sym (append-nil worlds))
+with_more (reading.World e) number pairs worlds (Pair p later) = ap (λ t. Pair p (t ++ later)) (sym (append-nil pairs))
+with_more (reading.World e) number pairs worlds (World n later) = ap (World n) (sym (append_assoc worlds ((number, e) ∷ []) later))
+
+-- the events of a script that ends here
+with_all : (chosen : Option Form) (pairs : List Numbered) (worlds : List NumberedEvent)
+    → with_events pairs worlds (empty_script chosen) ≡ script_of chosen pairs worlds
+with_all None pairs worlds = ap (Pair Pc) (append-nil pairs)
+with_all (Some (form.Pair p)) pairs worlds = ap (Pair p) (append-nil pairs)
+with_all (Some (form.World n)) pairs worlds = ap (World n) (append-nil worlds)
 
 onto_some : (byte : ℕ) (lines : List (List ℕ)) → 0 < length (onto_first byte lines)
 onto_some byte [] = omega arith
@@ -57,12 +82,12 @@ some_line (byte ∷ bytes) any =
       | false ↦ onto_some byte (lines_of bytes)
     ]
 
-module _ (text : List ℕ) (form : Option Protocol) (read : ℕ) (rest : List ℕ) (events : List Numbered)
-    (p : Progress text form read rest events) where
+module _ (text : List ℕ) (chosen : Option Form) (read : ℕ) (rest : List ℕ) (pairs : List Numbered) (worlds : List NumberedEvent)
+    (p : Progress text chosen read rest pairs worlds) where
   -- a line more
-  pub advance : (line later : List ℕ) (reading : Reading) → LosesLine rest line later → IsLine form reading line
-      → Progress text (form_after form reading) (read + 1) later (events ++ onto_events reading (read + 1) [])
-  advance line later reading loses is =
+  pub advance : (line later : List ℕ) (said : Reading) → LosesLine rest line later → IsLine chosen said line
+      → Progress text (form_after chosen said) (read + 1) later (pairs ++ pair_event_of said (read + 1)) (worlds ++ world_event_of said (read + 1))
+  advance line later said loses is =
       let all = lines_of text in
       let next : drop read all ≡ line ∷ lines_of later = p.left ∙ loses.lines in
       let more : take (read + 1) all ≡ take read all ++ line ∷ [] = take_next all read line (lines_of later) next in
@@ -77,26 +102,26 @@ module _ (text : List ℕ) (form : Option Protocol) (read : ℕ) (rest : List �
         );
         short = omega (arith, count, p.short, is.short);
         left = drop_next all read line (lines_of later) next;
-        so_far = λ lines protocol others means.
-            let whole : MeansEvents None 1 (take read all ++ line ∷ lines) protocol (events ++ onto_events reading (read + 1) others) =
-            p.so_far (line ∷ lines) protocol (onto_events reading (read + 1) others) (reading, others, is, refl, means) in
-            let events_are : events ++ onto_events reading (read + 1) others ≡ (events ++ onto_events reading (read + 1) []) ++ others =
-            ap (λ t. events ++ t) (sym (onto_none reading (read + 1) others))
-            ∙ sym (append_assoc events (onto_events reading (read + 1) []) others) in
-            subst (λ t. MeansEvents None 1 t protocol ((events ++ onto_events reading (read + 1) []) ++ others)) (regroup lines)
-            (subst (MeansEvents None 1 (take read all ++ line ∷ lines) protocol) events_are whole);
+        so_far = λ lines others means.
+            let whole : MeansScript None 1 (take read all ++ line ∷ lines) (with_events pairs worlds (onto_script said (read + 1) others)) =
+            p.so_far (line ∷ lines) (onto_script said (read + 1) others) (said, others, is, refl, means) in
+            subst
+            (λ t. MeansScript None 1 t
+            (with_events (pairs ++ pair_event_of said (read + 1)) (worlds ++ world_event_of said (read + 1)) others))
+            (regroup lines)
+            (subst (MeansScript None 1 (take read all ++ line ∷ lines)) (with_more said (read + 1) pairs worlds others) whole);
         none_bad =
-            λ lines bad stops. subst (λ t. StopsAt None 1 t bad) (regroup lines) (p.none_bad (line ∷ lines) bad (inr (reading, is, stops)));
+            λ lines bad column stops.
+            subst (λ t. StopsAt None 1 t bad column) (regroup lines) (p.none_bad (line ∷ lines) bad column (inr (said, is, stops)));
       }
 
   -- the lines so far mean the events so far
-  means_all : MeansEvents None 1 (take read (lines_of text) ++ []) (unwrap_or form Pc) events
+  means_all : MeansScript None 1 (take read (lines_of text) ++ []) (script_of chosen pairs worlds)
   means_all =
-      subst (MeansEvents None 1 (take read (lines_of text) ++ []) (unwrap_or form Pc)) (append-nil events)
-      (p.so_far [] (unwrap_or form Pc) [] (refl, refl))
+      subst (MeansScript None 1 (take read (lines_of text) ++ [])) (with_all chosen pairs worlds) (p.so_far [] (empty_script chosen) refl)
 
   -- the end of the text
-  pub finished : rest ≡ [] → read ≤ 100000 → IsPairScript text (unwrap_or form Pc) events
+  pub finished : rest ≡ [] → read ≤ 100000 → IsScript text (script_of chosen pairs worlds)
   finished none few =
       let all = lines_of text in
       let nothing : drop read all ≡ [] = p.left ∙ ap lines_of none in
@@ -104,19 +129,21 @@ module _ (text : List ℕ) (form : Option Protocol) (read : ℕ) (rest : List �
       let lines_are : take read all ++ [] ≡ all = append-nil (take read all) ∙ take_all read all fits in
       record {
         few = omega arith;
-        means = subst (λ t. MeansEvents None 1 t (unwrap_or form Pc) events) lines_are means_all;
+        means = subst (λ t. MeansScript None 1 t (script_of chosen pairs worlds)) lines_are means_all;
       }
 
   -- a bad line
-  pub stopped : (line : List ℕ) (later : List (List ℕ)) → lines_of rest ≡ line ∷ later → IsBad form line → read < 100000
-      → IsBadScript text (read + 1)
-  stopped line later is bad early =
+  pub stopped : (line : List ℕ) (later : List (List ℕ)) (column : ℕ) → lines_of rest ≡ line ∷ later → bad_column chosen line ≡ Some column
+      → read < 100000
+      → IsBadScript text (read + 1) column
+  stopped line later column is bad early =
       let all = lines_of text in
       let lines_are : take read all ++ (line ∷ later) ≡ all =
       ap (λ t. take read all ++ t) (sym (p.left ∙ is)) ∙ take-append-drop read all in
       record {
         early = omega arith;
-        stops = subst (λ t. StopsAt None 1 t (read + 1)) lines_are (p.none_bad (line ∷ later) (read + 1) (inl (bad, refl)));
+        stops =
+            subst (λ t. StopsAt None 1 t (read + 1) column) lines_are (p.none_bad (line ∷ later) (read + 1) column (inl (bad, refl)));
       }
 
   -- a line past the limit
@@ -127,9 +154,8 @@ module _ (text : List ℕ) (form : Option Protocol) (read : ℕ) (rest : List �
       record {
         long = over;
         means = (
-          unwrap_or form Pc,
-          events,
-          subst (λ n. MeansEvents None 1 (take n all) (unwrap_or form Pc) events) all_read
-              (subst (λ t. MeansEvents None 1 t (unwrap_or form Pc) events) (append-nil (take read all)) means_all),
+          script_of chosen pairs worlds,
+          subst (λ n. MeansScript None 1 (take n all) (script_of chosen pairs worlds)) all_read
+              (subst (λ t. MeansScript None 1 t (script_of chosen pairs worlds)) (append-nil (take read all)) means_all),
         );
       }

@@ -5,8 +5,8 @@ ghost use Rattle.ba_ports.specs.Causes.{HasCause};
 ghost use Rattle.ba_script.specs.inside.Lines.{HasNoFeed, EndsLine, IsNextLine, ReadsAfter};
 ghost use Rattle.ba_script.specs.Scripts.{lookahead};
 
-use crate::scripts::MOST_BYTES;
 use ba_core::Memory;
+use ba_forms::MOST_BYTES;
 use ba_ports::{Failed, Source};
 use std::alloc::Global;
 use std::marker::Model;

@@ -1,20 +1,19 @@
-//! Scripts of a pair's events: what they are made of, why one is refused, and how one is read.
-ghost use Rattle.std.specs.Prelude.{◌≡◌, ◌≤◌, ◌++◌, [], None, IfOk, IfErr, IfSome, OnOk, OnErr};
+//! Scripts of the events of a pair or of a world: what they are made of, why one is refused, and how one is read.
+ghost use Rattle.std.specs.Prelude.{◌≡◌, ◌≤◌, ◌++◌, ◌∷◌, [], None, IfOk, IfErr, IfSome, OnOk, OnErr};
 ghost use Rattle.std.specs.Io.KnownBytes.{IsAtEnd};
 ghost use Rattle.ba_ports.specs.Causes.{Rose};
 ghost use Rattle.ba_ports.specs.Inputs.{TakesAtMost};
-ghost use Rattle.ba_script.specs.Scripts.{IsScript, ExplainsFault, form_after, onto_events, most_of_script, most_until_fault};
+ghost use Rattle.ba_script.specs.Scripts.{IsScript, ExplainsFault, form_after, most_of_script, most_until_fault};
+ghost use Rattle.ba_script.specs.inside.Events.{pair_event_of, script_of, world_event_of};
 
 use crate::lines::Lines;
-use crate::readings::{Reading, reading_of};
 use ba_core::{List, Memory, Protocol};
+use ba_events::Event;
+use ba_forms::{Form, Reading, reading_of};
 use ba_pair::PairEvent;
 use ba_ports::{Failed, Source};
 use std::alloc::Global;
 use thiserror::Error;
-
-/// A line has this many bytes at most.
-pub const MOST_BYTES: usize = 256;
 
 /// A script has this many lines at most.
 pub const MOST_LINES: u32 = 100_000;
@@ -24,6 +23,8 @@ pub const MOST_LINES: u32 = 100_000;
 pub enum Script {
     /// The events of one pair.
     Pair(Protocol, List<(u32, PairEvent)>),
+    /// The events of a world of so many nodes.
+    World(u32, List<(u32, Event)>),
 }
 
 /// Why a script wasn't read.
@@ -33,8 +34,8 @@ pub enum ScriptFault {
     Memory,
     #[error("the input can't be read")]
     Read,
-    /// The first line that no script has there, and the column of its first word that is wrong;
-    /// the column is 0 for now.
+    /// The first line that no script has there, and the column, from 1, of its first word that no form allows; one
+    /// past its end where a word is missing, and 257 where the line is too long.
     #[error("line {0} column {1}")]
     BadLine(u32, u32),
     #[error("more than 100000 lines")]
@@ -81,33 +82,63 @@ pub fn read_script<S: Source>(alloc: Global, source: &mut S) -> Result<Script, S
     ensures bounded { TakesAtMost (S.left source.old) (S.left source.new) most_of_script }
 {
     let mut lines = Lines::new(alloc)?;
-    let mut events = List::new(alloc);
+    let mut pairs = List::new(alloc);
+    let mut worlds = List::new(alloc);
     let mut form = None;
     'lines: for read in 0..MOST_LINES {
         let Some(count) = lines.find(source)? else {
-            return Ok(Script::Pair(form.unwrap_or(Protocol::Pc), events));
+            return Ok(script_of(form, pairs, worlds));
         };
-        let Some(reading) = reading_of(lines.first(count), form) else {
-            return Err(ScriptFault::BadLine(read + 1, 0));
+        let reading = match reading_of(lines.first(count), form) {
+            Ok(reading) => reading,
+            Err(column) => return Err(ScriptFault::BadLine(read + 1, column)),
         };
-        add(&mut events, reading, read + 1)?;
+        add(&mut pairs, &mut worlds, reading, read + 1)?;
         form = form_after(form, reading);
         lines.pass(count);
     }
     if lines.is_at_end(source)? {
-        return Ok(Script::Pair(form.unwrap_or(Protocol::Pc), events));
+        return Ok(script_of(form, pairs, worlds));
     }
     Err(ScriptFault::TooManyLines)
 }
 
-// Appends the event of the line with this number, if the line tells one.
-fn add(events: &mut List<(u32, PairEvent)>, reading: Reading, number: u32) -> Result<(), Memory>
-    ensures ok { OnOk result (events.new ≡ events.old ++ onto_events reading number []) }
-    ensures err { OnErr result (events.new ≡ events.old) }
+// The script of this form that has these events.
+fn script_of(
+    form: Option<Form>,
+    pairs: List<(u32, PairEvent)>,
+    worlds: List<(u32, Event)>,
+) -> Script
+    ensures { result ≡ script_of form pairs worlds }
 {
-    let Reading::Event(event) = reading else {
-        return Ok(());
-    };
+    match form {
+        None => Script::Pair(Protocol::Pc, pairs),
+        Some(Form::Pair(protocol)) => Script::Pair(protocol, pairs),
+        Some(Form::World(nodes)) => Script::World(nodes, worlds),
+    }
+}
+
+// Appends the event of the line with this number, if the line tells one.
+fn add(
+    pairs: &mut List<(u32, PairEvent)>,
+    worlds: &mut List<(u32, Event)>,
+    reading: Reading,
+    number: u32,
+) -> Result<(), Memory>
+    ensures pairs { OnOk result (pairs.new ≡ pairs.old ++ pair_event_of reading number) }
+    ensures worlds { OnOk result (worlds.new ≡ worlds.old ++ world_event_of reading number) }
+{
+    match reading {
+        Reading::Pair(event) => add_to(pairs, event, number),
+        Reading::World(event) => add_to(worlds, event, number),
+        _ => Ok(()),
+    }
+}
+
+// Appends an event with the number of its line.
+fn add_to<E: Drop>(events: &mut List<(u32, E)>, event: E, number: u32) -> Result<(), Memory>
+    ensures { OnOk result (events.new ≡ events.old ++ (number, event) ∷ []) }
+{
     match events.push((number, event)) {
         Ok(()) => Ok(()),
         Err(_) => Err(Memory),
@@ -115,7 +146,7 @@ fn add(events: &mut List<(u32, PairEvent)>, reading: Reading, number: u32) -> Re
 }
 
 // The form that stands after a line that says this.
-fn form_after(form: Option<Protocol>, reading: Reading) -> Option<Protocol>
+fn form_after(form: Option<Form>, reading: Reading) -> Option<Form>
     ensures { result ≡ form_after form reading }
 {
     match form {
@@ -126,12 +157,12 @@ fn form_after(form: Option<Protocol>, reading: Reading) -> Option<Protocol>
 
 // The form of a script whose first line that says something says this. One that begins with an event is of
 // a ParticipantCompletion pair.
-fn form_begun(reading: Reading) -> Option<Protocol>
+fn form_begun(reading: Reading) -> Option<Form>
     ensures { result ≡ form_after None reading }
 {
     match reading {
-        Reading::Nothing => None,
-        Reading::Form(protocol) => Some(protocol),
-        Reading::Event(_) => Some(Protocol::Pc),
+        Reading::Nothing | Reading::World(_) => None,
+        Reading::Opening(form) => Some(form),
+        Reading::Pair(_) => Some(Form::Pair(Protocol::Pc)),
     }
 }

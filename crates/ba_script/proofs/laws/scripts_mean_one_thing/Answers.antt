@@ -1,4 +1,4 @@
-use Rattle.ba_script.proofs.OneReading.{script_is_one, script_not_bad, bad_is_one, script_not_long, long_not_bad}
+use Rattle.ba_script.proofs.OneReading.{script_is_one, pair_is_one, script_not_bad, bad_is_one, script_not_long, long_not_bad}
 use Rattle.ba_script.proofs.SomeReading.{text_is_some}
 use Rattle.ba_script.proofs.laws.scripts_mean_one_thing.Goals as goal
 
@@ -7,6 +7,9 @@ returns-clause-some c = text_is_some
 
 pub returns-clause-one : goal.returns-clause-one
 returns-clause-one c = script_is_one
+
+pub returns-clause-one_pair : goal.returns-clause-one_pair
+returns-clause-one_pair c = pair_is_one
 
 pub returns-clause-bad : goal.returns-clause-bad
 returns-clause-bad c = script_not_bad
