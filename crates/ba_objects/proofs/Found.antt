@@ -4,15 +4,13 @@ use Rattle.std.proofs.lemmas.Bool.{and_parts}
 use Rattle.std.specs.List.{find}
 use Rattle.ba_core.specs.PartRows.{is_part_state}
 use Rattle.ba_core.specs.declared.identifiers.Id.{Id}
-use Rattle.ba_objects.specs.inside.Finds.{FindsEnd, FindsLone, FindsScope, FindsUp, end_at}
+use Rattle.ba_objects.specs.Finds.{FindsEnd, FindsLone, FindsScope, FindsUp, end_at}
 use Rattle.ba_scope.proofs.Owned.{own_states}
-use Rattle.ba_ends.proofs.Places.{found_passes, none_found, place_found}
-use Rattle.ba_ends.specs.Ends.{has_own_state, end_with_id, same_id}
-use Rattle.ba_ends.specs.Parts.{part_fits}
-use Rattle.ba_scope.specs.Fits.{ScopeFits, up_fits}
-use Rattle.ba_scope.specs.Scope.{ScopeState, is_id_above}
-use Rattle.ba_ends.specs.declared.ends.End.{End}
-use Rattle.ba_ends.specs.declared.parts.Part.{Part}
+use Rattle.ba_scope.proofs.Places.{found_passes, none_found, place_found}
+use Rattle.ba_scope.specs.Fits.{ScopeFits, has_own_state, part_fits, up_fits}
+use Rattle.ba_scope.specs.Scope.{ScopeState, end_with_id, is_id_above, same_id}
+use Rattle.ba_scope.specs.declared.ends.End.{End}
+use Rattle.ba_scope.specs.declared.parts.Part.{Part}
 use Rattle.ba_steps.proofs.Members.{all_among, same_id_is}
 use Rattle.ba_steps.proofs.Objects.{lone_fits, scope_fits}
 use Rattle.ba_steps.proofs.Places.{end_found, first_is, scope_found}
@@ -26,7 +24,7 @@ pub scope_at : (n : NodeState) (id : Id) (place : ℕ) (s : ScopeState) → Node
 scope_at n id place s fits placed at =
     let found : scope_with_id n id ≡ Some s = place_found (λ (x : ScopeState). same_id x.id id) n.scopes place placed ∙ at in
     let stands = scope_found n id s found in
-    record { found = found; at = at; is = stands.1; fits = scope_fits n s fits stands.0 }
+    record { node = fits; found = found; at = at; is = stands.1; fits = scope_fits n s fits stands.0 }
 
 pub no_scope : (n : NodeState) (id : Id) → position (λ (x : ScopeState). same_id x.id id) n.scopes ≡ None → scope_with_id n id ≡ None
 no_scope n id none = none_found (λ (x : ScopeState). same_id x.id id) n.scopes none
@@ -71,6 +69,7 @@ end_placed n id place s e fits placed at found =
     let first : find (has_end id) n.scopes ≡ Some s = place_found (has_end id) n.scopes place placed ∙ at in
     let stands = end_found n id (end_at s e) (first_of id n.scopes s e first found) in
     record {
+      node = fits;
       placed = stands.placed;
       at = at;
       found = found;
@@ -105,6 +104,7 @@ lone_at n id place p fits placed at =
     let found : lone_with n id ≡ Some p = place_found (λ (x : Part). same_id x.id id) n.parts place placed ∙ at in
     let first = first_is (λ (x : Part). same_id x.id id) n.parts p found in
     record {
+      node = fits;
       placed = ap (by_lone n id) found;
       at = at;
       is = same_id_is p.id id first.1;
@@ -152,7 +152,7 @@ none_above id (x ∷ more) h = by_up x.up h (none_above id more)
     by_up (Some q) h rest = by_id (same_id q.id id) q h rest
 
 -- the participant above a scope that fits
-up_own : (o : Option Part) (p : Part) → IsTrue (up_fits o) → o ≡ Some p → IsTrue (is_part_state p.protocol p.state)
+pub up_own : (o : Option Part) (p : Part) → IsTrue (up_fits o) → o ≡ Some p → IsTrue (is_part_state p.protocol p.state)
 up_own o p fits is = own_part p (subst (λ (x : Option Part). IsTrue (up_fits x)) is fits)
 
 pub up_at : (n : NodeState) (id : Id) (place : ℕ) (s : ScopeState) (p : Part) → NodeFits n → lone_with n id ≡ None
@@ -162,6 +162,7 @@ up_at n id place s p fits alone placed at up =
     let first = first_is (above_with id) n.scopes s found in
     let same : same_id p.id id ≡ true = ap (λ (o : Option Part). is_id_above o id) (sym up) ∙ first.1 in
     record {
+      node = fits;
       placed = ap (by_lone n id) alone ∙ first_above id n.scopes s p found up;
       at = at;
       up = up;

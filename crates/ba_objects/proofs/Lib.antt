@@ -1,8 +1,4 @@
-pub mod Acted
 pub mod Applied
-pub mod Asked
+pub mod Counted
 pub mod Found
-pub mod Noticed
-pub mod Placed
-pub mod Planned
-pub mod Registered
+pub mod Shows

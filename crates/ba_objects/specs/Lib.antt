@@ -1,3 +1,4 @@
 pub mod Changes
+pub mod Finds
 pub mod Objects
 pub mod inside

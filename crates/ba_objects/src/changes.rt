@@ -2,10 +2,9 @@
 ghost use Rattle.std.specs.Prelude.{◌≡◌};
 ghost use Rattle.ba_objects.specs.Changes.{SuitsPart, SuitsScope, changed_part, changed_scope};
 
-use ba_core::{Id, Leave, Notice, PState, Verdict};
-use ba_ends::Part;
+use ba_core::{Id, Leave, Notice, PState, Protocol, Verdict};
 use ba_message::Epr;
-use ba_scope::Scope;
+use ba_scope::{Part, Room, Scope};
 
 /// What is to be changed at a scope: one call of it.
 #[derive(Debug, Drop)]
@@ -35,6 +34,8 @@ pub enum ScopeChange {
     EndTick(Id),
     /// Its own participant ticks.
     UpTick,
+    /// It enrols this participant by this identifier, in this room.
+    Enrol(Room, Id, Protocol, Epr),
 }
 
 /// What is to be changed at a lone participant.
@@ -56,6 +57,10 @@ pub enum Change {
     Nothing,
     Scope(usize, ScopeChange),
     Part(usize, PartChange),
+    /// A scope comes after the others.
+    NewScope(Scope),
+    /// A lone participant comes after the others.
+    NewPart(Part),
 }
 
 /// Changes a scope, by one call of it.
@@ -101,6 +106,9 @@ pub(crate) fn change_scope(scope: &mut Scope, change: ScopeChange)
         }
         ScopeChange::UpTick => {
             scope.up_tick();
+        }
+        ScopeChange::Enrol(room, id, protocol, participant) => {
+            scope.enrol(room, id, protocol, participant);
         }
     }
 }

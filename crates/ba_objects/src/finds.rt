@@ -1,29 +1,26 @@
 //! Where an object of a node stands.
 ghost use Rattle.std.specs.Prelude.{◌≡◌, ◌<◌, IfSome, IfNone, None, is_some, length, position};
 ghost use Rattle.std.specs.List.{find};
-ghost use Rattle.std.specs.Option.{option_map};
-ghost use Rattle.ba_objects.specs.Changes.{node_of};
-ghost use Rattle.ba_objects.specs.inside.Finds.{FindsEnd, FindsLone, FindsScope, FindsUp};
-ghost use Rattle.ba_ends.specs.Ends.{end_with_id, same_id};
-ghost use Rattle.ba_scope.specs.Scope.{is_id_above};
+ghost use Rattle.ba_objects.specs.Objects.{node_of};
+ghost use Rattle.ba_objects.specs.Finds.{FindsEnd, FindsLone, FindsScope, FindsUp};
+ghost use Rattle.ba_scope.specs.Scope.{end_with_id, is_id_above, same_id};
 ghost use Rattle.ba_steps.specs.Fits.{NodeFits};
 ghost use Rattle.ba_steps.specs.Node.{end_place, nowhere, part_place, scope_with_id};
 
 use crate::fields::Fields;
 use ba_core::Id;
-use ba_ends::{End, Part};
-use ba_scope::Scope;
+use ba_scope::{End, Part, Scope};
 
 /// A scope, and its place.
 #[derive(Drop)]
-pub(crate) struct FoundScope<'a> {
+pub struct FoundScope<'a> {
     pub place: usize,
     pub scope: &'a Scope,
 }
 
 /// An end, and its scope with its place.
 #[derive(Drop)]
-pub(crate) struct FoundEnd<'a> {
+pub struct FoundEnd<'a> {
     pub place: usize,
     pub scope: &'a Scope,
     pub end: &'a End,
@@ -31,14 +28,14 @@ pub(crate) struct FoundEnd<'a> {
 
 /// A lone participant, and its place.
 #[derive(Drop)]
-pub(crate) struct FoundLone<'a> {
+pub struct FoundLone<'a> {
     pub place: usize,
     pub part: &'a Part,
 }
 
 /// A scope's own participant, and the scope with its place.
 #[derive(Drop)]
-pub(crate) struct FoundUp<'a> {
+pub struct FoundUp<'a> {
     pub place: usize,
     pub scope: &'a Scope,
     pub part: &'a Part,
@@ -82,7 +79,7 @@ pub(crate) fn find_end<'a>(node: &'a Fields, id: Id) -> Option<FoundEnd<'a>>
         None => None,
         Some(place) => {
             let scope = &node.scopes[place];
-            match end_in(scope, id) {
+            match scope.end(id) {
                 None => None,
                 Some(end) => Some(FoundEnd { place, scope, end }),
             }
@@ -107,13 +104,7 @@ fn position_with_end(scopes: &[Scope], id: Id) -> Option<usize>
 fn has_end(scope: &Scope, id: Id) -> bool
     ensures { result ≡ is_some (end_with_id scope.now.ends id) }
 {
-    end_in(scope, id).is_some()
-}
-
-fn end_in<'a>(scope: &'a Scope, id: Id) -> Option<&'a End>
-    ensures { option_map (λ e. e.now) result ≡ end_with_id scope.now.ends id }
-{
-    scope.ends().iter().find(|end| end.id == id)
+    scope.end(id).is_some()
 }
 
 /// The lone participant with this identifier.

@@ -1,19 +1,13 @@
-//! A node in memory: its objects, what each input and each tick is to make of them, and the doing of it.
+//! A node in memory: its objects, where each stands, and the doing of what a plan is to change.
 #![tactic(auto)]
 
-mod acts;
-mod asks;
 mod changes;
-mod decisions;
+mod counts;
 mod fields;
 mod finds;
-mod notices;
+mod looks;
 mod objects;
-mod plans;
-mod registering;
-mod rules;
-mod states;
 
 pub use changes::{Change, PartChange, ScopeChange};
+pub use finds::{FoundEnd, FoundLone, FoundScope, FoundUp};
 pub use objects::Objects;
-pub use plans::Plan;

@@ -1,16 +1,19 @@
 //! A node in memory, as its callers see it.
-ghost use Rattle.std.specs.Prelude.{◌≡◌, IfOk};
-ghost use Rattle.ba_objects.specs.Changes.{Suits, changed_node, planned_step};
+ghost use Rattle.std.specs.Prelude.{◌≡◌, ◌<◌, IfNone, IfSome, None, OnOk};
+ghost use Rattle.std.specs.List.{find};
+ghost use Rattle.ba_objects.specs.Changes.{Suits, changed_node};
+ghost use Rattle.ba_objects.specs.Finds.{FindsEnd, FindsLone, FindsScope, FindsUp};
+ghost use Rattle.ba_scope.specs.Scope.{same_id};
 ghost use Rattle.ba_steps.specs.Fits.{NodeFits};
-ghost use Rattle.ba_steps.specs.Node.{new_node};
-ghost use Rattle.ba_steps.specs.Steps.{on_act, on_ask, on_choose, on_complete, on_decide, on_enrolled, on_finish, on_leave, on_notice, on_refused_by};
+ghost use Rattle.ba_steps.specs.Node.{end_place, last, new_node, nowhere, part_place, scope_with_id};
+ghost use Rattle.ba_steps.specs.Shown.{deadline_of, in_scope, seen_at};
 
 use crate::changes::Change;
 use crate::fields::Fields;
-use crate::plans::Plan;
-use crate::{acts, asks, decisions, notices, registering};
-use ba_core::{Act, Code, Id, Leave, Memory, Notice, Octets, Side, Verdict};
-use ba_message::Epr;
+use crate::finds::{FoundEnd, FoundLone, FoundScope, FoundUp};
+use crate::{counts, finds, looks};
+use ba_core::{Id, Memory, Octets};
+use ba_steps::Seen;
 use std::alloc::Global;
 use std::marker::Model;
 
@@ -21,8 +24,7 @@ pub struct Objects {
 }
 
 impl Model for Objects {
-    ghost use Rattle.ba_objects.specs.Changes.{node_of};
-    ghost use Rattle.ba_objects.specs.Objects.{NodeInMemory, room_of};
+    ghost use Rattle.ba_objects.specs.Objects.{NodeInMemory, in_memory, node_of};
     ghost use Rattle.ba_steps.specs.Fits.{NodeFits};
     ghost use Rattle.ba_tree.specs.contracts.trees.Content as content;
     ghost use Rattle.std.specs.Coded.{codes};
@@ -31,7 +33,7 @@ impl Model for Objects {
 
     ghost coded = { Prim.hlevel (codes, content.the_row.coded) };
 
-    ghost view = { λ o. record { node = node_of o.fields; room = room_of o.fields } };
+    ghost view = { λ o. in_memory o.fields };
 
     ghost invariant = { λ o. NodeFits (node_of o.fields) };
 }
@@ -46,94 +48,104 @@ impl Objects {
         }
     }
 
-    // ---- what an input is to make of it
-
-    /// A verdict on a root of type AtomicOutcome.
-    pub fn decide(&self, id: Id, verdict: Verdict) -> Plan
-        ensures step { planned_step self.now.node result ≡ on_decide self.now.node id verdict }
-        ensures suits { Suits self.now.node result.change }
+    /// Its number.
+    pub fn number(&self) -> u32
+        ensures { result ≡ self.now.node.number }
     {
-        decisions::decide(&self.fields, id, verdict)
+        self.fields.number
     }
 
-    /// A verdict on one end of a root of type MixedOutcome.
-    pub fn choose(&self, id: Id, verdict: Verdict) -> Plan
-        ensures step { planned_step self.now.node result ≡ on_choose self.now.node id verdict }
-        ensures suits { Suits self.now.node result.change }
+    /// The base of its addresses.
+    pub fn base(&self) -> &[u8]
+        ensures { result.now ≡ self.now.node.base }
     {
-        decisions::choose(&self.fields, id, verdict)
+        self.fields.base.as_slice()
     }
 
-    /// An end's participant is to be asked to complete.
-    pub fn complete(&self, id: Id) -> Plan
-        ensures step { planned_step self.now.node result ≡ on_complete self.now.node id }
-        ensures suits { Suits self.now.node result.change }
+    /// The greatest counter in use: each from 1 up to it is that of an object.
+    pub fn last(&self) -> u64
+        ensures { result ≡ last self.now.node }
     {
-        decisions::complete(&self.fields, id)
+        counts::last(&self.fields)
     }
 
-    /// The work of a child scope is done.
-    pub fn finish(&self, id: Id) -> Plan
-        ensures step { planned_step self.now.node result ≡ on_finish self.now.node id }
-        ensures suits { Suits self.now.node result.change }
-    {
-        decisions::finish(&self.fields, id)
+    /// Where its memory comes from.
+    pub fn allocator(&self) -> Global {
+        *self.fields.scopes.allocator()
     }
 
-    /// A child scope leaves its activity.
-    pub fn leave(&self, id: Id, how: Leave) -> Plan
-        ensures step { planned_step self.now.node result ≡ on_leave self.now.node id how }
-        ensures suits { Suits self.now.node result.change }
+    // ---- what it shows
+
+    /// What the object with this identifier shows.
+    pub fn status(&self, id: Id) -> Option<Seen>
+        ensures { result ≡ seen_at self.now.node id }
     {
-        decisions::leave(&self.fields, id, how)
+        looks::status(&self.fields, id)
     }
 
-    /// A notice arrives at an end or at a participant.
-    pub fn notice(&self, side: Side, id: Id, notice: Notice) -> Plan
-        ensures step { planned_step self.now.node result ≡ on_notice self.now.node side id notice }
-        ensures suits { Suits self.now.node result.change }
+    /// The deadline of the root with this identifier, in milliseconds, where it has no verdict.
+    pub fn deadline(&self, scope: Id) -> Option<u64>
+        ensures { result ≡ deadline_of self.now.node scope }
     {
-        notices::notice(&self.fields, side, id, notice)
+        looks::deadline(&self.fields, scope)
     }
 
-    /// The Register of a participant was answered with a fault.
-    pub fn refused_by(&self, id: Id, code: Code) -> Plan
-        ensures step { planned_step self.now.node result ≡ on_refused_by self.now.node id code }
-        ensures suits { Suits self.now.node result.change }
+    /// What stands at this place, from 0, among the ends of this scope and, after them, its own participant.
+    pub fn in_scope(&self, scope: Id, place: u32) -> Option<Id>
+        ensures { result ≡ in_scope self.now.node scope place }
     {
-        registering::refused_by(&self.fields, id, code)
+        looks::in_scope(&self.fields, scope, place)
     }
 
-    /// The Register of a participant was answered: this is its coordinator's end.
-    pub fn enrolled(&self, id: Id, coordinator: &Epr) -> Result<Plan, Memory>
-        ensures step { IfOk result (λ plan. planned_step self.now.node plan ≡ on_enrolled self.now.node id coordinator.now) }
-        ensures suits { IfOk result (λ plan. Suits self.now.node plan.change) }
+    // ---- where its objects stand
+
+    /// The scope with this identifier.
+    pub fn find_scope<'a>(&'a self, id: Id) -> Option<FoundScope<'a>>
+        ensures some { IfSome result (λ f. FindsScope self.now.node id f.place f.scope.now) }
+        ensures none { IfNone result (scope_with_id self.now.node id ≡ None) }
     {
-        registering::enrolled(&self.fields, id, coordinator)
+        finds::find_scope(&self.fields, id)
     }
 
-    /// The work of a lone participant came to this.
-    pub fn act(&self, id: Id, act: Act) -> Plan
-        ensures step { planned_step self.now.node result ≡ on_act self.now.node id act }
-        ensures suits { Suits self.now.node result.change }
+    /// The end with this identifier.
+    pub fn find_end<'a>(&'a self, id: Id) -> Option<FoundEnd<'a>>
+        ensures some { IfSome result (λ f. FindsEnd self.now.node id f.place f.scope.now f.end.now) }
+        ensures none { IfNone result (end_place self.now.node id ≡ None) }
     {
-        acts::act(&self.fields, id, act)
+        finds::find_end(&self.fields, id)
     }
 
-    /// The other side of an end or of a participant is to be asked for its Status.
-    pub fn ask(&self, id: Id) -> Plan
-        ensures step { planned_step self.now.node result ≡ on_ask self.now.node id }
-        ensures suits { Suits self.now.node result.change }
+    /// The lone participant with this identifier.
+    pub fn find_lone<'a>(&'a self, id: Id) -> Option<FoundLone<'a>>
+        ensures some { IfSome result (λ f. FindsLone self.now.node id f.place f.part.now) }
+        ensures none { IfNone result (find (λ p. same_id p.id id) self.now.node.parts ≡ None) }
     {
-        asks::ask(&self.fields, id)
+        finds::find_lone(&self.fields, id)
     }
 
-    // ---- its doing
+    /// The scope's own participant with this identifier, which no lone participant has.
+    pub fn find_up<'a>(&'a self, id: Id) -> Option<FoundUp<'a>>
+        requires { find (λ p. same_id p.id id) self.now.node.parts ≡ None }
+        ensures some { IfSome result (λ f. FindsUp self.now.node id f.place f.scope.now f.part.now) }
+        ensures none { IfNone result (part_place self.now.node id ≡ nowhere) }
+    {
+        finds::find_up(&self.fields, id)
+    }
+
+    // ---- the doing
+
+    /// Takes memory for one more scope and for one more lone participant.
+    pub fn reserve(&mut self) -> Result<(), Memory>
+        ensures node { self.new.node ≡ self.old.node }
+        ensures room { OnOk result (0 < self.new.room) }
+    {
+        self.fields.reserve()
+    }
 
     /// Changes what a plan is to change. It takes no memory.
     pub fn apply(&mut self, change: Change)
-        requires suits { Suits self.old.node change }
-        requires fits { NodeFits (changed_node self.old.node change) }
+        requires suits { Suits self.old change }
+        requires fits { NodeFits self.old.node → NodeFits (changed_node self.old.node change) }
         ensures { self.new.node ≡ changed_node self.old.node change }
     {
         self.fields.apply(change);

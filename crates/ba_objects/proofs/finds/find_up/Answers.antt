@@ -1,6 +1,6 @@
 use Rattle.std.proofs.Common.{◌≡◌, ◌<◌, Some, length, position, refl, sym}
 use Rattle.std.proofs.lemmas.Option.{slice_get_read}
-use Rattle.ba_objects.specs.Changes.{node_of}
+use Rattle.ba_objects.specs.Objects.{node_of}
 use Rattle.ba_objects.proofs.Found.{above_with, nobody_at, up_at, up_is_there}
 use Rattle.ba_steps.specs.Node.{NodeState}
 use Rattle.ba_objects.proofs.finds.find_up.Goals as goal

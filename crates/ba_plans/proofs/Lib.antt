@@ -1,0 +1,9 @@
+pub mod Acted
+pub mod Asked
+pub mod Enacted
+pub mod Made
+pub mod Noticed
+pub mod Placed
+pub mod Planned
+pub mod Registered
+pub mod Ticked

@@ -1,0 +1,4 @@
+pub mod Enacting
+pub mod Joining
+pub mod Registering
+pub mod Ticking
