@@ -1,5 +1,5 @@
 -- What shows itself of bytes is one thing, and a head says one thing; for the laws.
-use Rattle.std.proofs.Common.{◌≡◌, ℕ, ◌+◌, ◌-◌, ◌<◌, ◌≤◌, ◌⊎◌, inl, inr, Bool, true, false, nat_eq, List, [], ◌∷◌, ◌++◌, length, take, refl, sym, ap, ◌∙◌, subst, arith, append-nil, length-append, Option, Result, zero, suc}
+use Rattle.std.proofs.Common.{◌≡◌, ℕ, ◌+◌, ◌-◌, ◌<◌, ◌≤◌, inl, inr, true, false, nat_eq, List, [], ◌∷◌, ◌++◌, length, take, refl, sym, ap, ◌∙◌, subst, arith, append-nil, length-append, Option, Result, zero, suc}
 use Rattle.std.specs.Prelude.{◌||◌}
 use Rattle.std.proofs.lemmas.Bool.{cases_lt}
 use Rattle.std.proofs.lemmas.List.{length-take-le, take-take, take-append-le}
@@ -14,7 +14,7 @@ use Rattle.ba_http_head.specs.declared.headings.Heading.TheVariants.{Request, Re
 use Rattle.ba_http_head.specs.declared.lengths.Length.{Length}
 use Rattle.ba_http_head.specs.declared.scans.Shown.{Shown}
 use Rattle.ba_http_head.specs.declared.scans.Shown.TheVariants.{Whole, Bad, Large}
-use Rattle.ba_http_head.specs.HeadLines.{IsWhole, NeverWhole, BeginsLine, EndsInFeed, has_feed, Settles, SettlesFirst, LastLineAt}
+use Rattle.ba_http_head.specs.HeadLines.{IsWhole, NeverWhole, has_feed, Settles, SettlesFirst, LastLineAt}
 use Rattle.ba_http_head.specs.Heads.{StartLine, asks, answers, SaysHead}
 use Rattle.ba_http_head.specs.Lengths.{length_of, needed_length}
 use Rattle.ba_http_head.specs.Looks.{Shows}

@@ -20,7 +20,7 @@ opens_fault heading old new NoLength f = absurd f.5
 opens_fault heading old new TooLarge f = (f.0, f.1, f.2, f.3, f.4, (f.5.0, f.5.1, inl f.5.2))
 opens_fault heading old new (BadChunk place) f = absurd f.5
 opens_fault heading old new Truncated f = (f.0, f.1, f.2, f.3, f.4, f.5)
-opens_fault heading old new Read f = (f.0, f.1, f.2, f.3, f.4, tt)
+opens_fault heading old new Read f = (f.0, f.1, f.2, f.3, f.4, f.5)
 
 module _ (heading : Heading) (fetched : Fetched) (taken : List ℕ) (left : Option (List ℕ)) (same : fetched.bytes ≡ taken)
     (within : fetched.len ≤ length taken) (shows : Shows heading (take fetched.len taken) Whole) where

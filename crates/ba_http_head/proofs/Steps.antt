@@ -1,5 +1,5 @@
 -- What was found after one more read; for the clause `found` of fetch_by.
-use Rattle.std.proofs.Common.{◌≡◌, ℕ, ◌≤◌, List, [], ◌∷◌, ◌++◌, length, take, Option, None, Some, Result, Err, refl, sym, ◌∙◌, subst, arith}
+use Rattle.std.proofs.Common.{◌≡◌, ℕ, ◌≤◌, List, [], ◌∷◌, ◌++◌, length, take, Option, None, Some, Result, Err, refl, sym, ◌∙◌, subst, arith, append-nil}
 use Rattle.std.specs.Io.KnownBytes.{Consumes, Keeps}
 use Rattle.std.proofs.Common.{◌⊎◌, inl, inr}
 use Rattle.ba_http_head.specs.declared.faults.HttpFault.TheVariants.{Memory, Read}
@@ -38,12 +38,24 @@ pub empty : (xs : List ℕ) → length xs ≡ 0 → xs ≡ []
 empty [] none = refl
 empty (x ∷ xs) none = absurd (omega (arith, none))
 
-pub not_told : (heading : Heading) (all : List ℕ) (left : Option (List ℕ)) (fault : HttpFault) → (fault ≡ Memory) ⊎ (fault ≡ Read)
-    → FetchedSo heading all left (Err fault)
-not_told heading all left fault which =
+-- what stays is none of it
+pub none_of : (old new : Option (List ℕ)) → Keeps old new → Consumes old new []
+none_of None new same = tt
+none_of (Some xs) None same = absurd same
+none_of (Some xs) (Some ys) same = sym same
+
+-- a read that wasn't appended, or failed
+pub not_read : (heading : Heading) (old mid new : Option (List ℕ)) (hand more : List ℕ) (fault : HttpFault) → Consumes old mid hand
+    → IsOpen heading hand → (fault ≡ Memory) ⊎ (fault ≡ Read) → Consumes mid new more → length more ≤ BLOCK
+    → (fault ≡ Read → Keeps mid new) → Fetches heading old new (Err fault)
+not_read heading old mid new hand more fault before yet which last small same =
     elim which [
-      | inl memory ↦ subst (λ f. FetchedSo heading all left (Err f)) (sym memory) tt
-      | inr read ↦ subst (λ f. FetchedSo heading all left (Err f)) (sym read) tt
+      | inl memory ↦
+          fetched heading old mid new hand more (hand ++ more) (Err fault) before last yet small refl
+          (subst (λ f. FetchedSo heading (hand ++ more) new (Err f)) (sym memory) tt)
+      | inr read ↦
+          fetched heading old mid new hand [] hand (Err fault) before (none_of mid new (same read)) yet (omega arith) (sym (append-nil hand))
+          (subst (λ f. FetchedSo heading hand new (Err f)) (sym read) yet)
     ]
 
 pub found_so : (heading : Heading) (shown : Shown) (all : List ℕ) (n : ℕ) (left : Option (List ℕ)) → n ≤ length all

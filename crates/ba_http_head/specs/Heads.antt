@@ -65,7 +65,7 @@ OpeningSo heading taken left (Err TooLarge) =
     × (Shows heading (take n taken) Large ⊎ ((start : StartLine) × IsHead heading (take n taken) start (Err TooLarge)))
 OpeningSo heading taken left (Err (BadChunk place)) = ⊥
 OpeningSo heading taken left (Err Truncated) = IsOpen heading taken × IsAtEnd left
-OpeningSo heading taken left (Err Read) = ⊤
+OpeningSo heading taken left (Err Read) = IsOpen heading taken
 
 -- Bytes were taken with which nothing had shown itself yet, and then a block at most.
 abbrev pub Opens : Heading → Option (List ℕ) → Option (List ℕ) → Result Opening HttpFault → Type 0

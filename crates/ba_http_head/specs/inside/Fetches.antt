@@ -21,7 +21,7 @@ FetchedSo heading taken left (Err Length) = ⊥
 FetchedSo heading taken left (Err TooLarge) = (n : ℕ) × (n ≤ length taken) × Shows heading (take n taken) Large
 FetchedSo heading taken left (Err (BadChunk place)) = ⊥
 FetchedSo heading taken left (Err Truncated) = IsOpen heading taken × IsAtEnd left
-FetchedSo heading taken left (Err Read) = ⊤
+FetchedSo heading taken left (Err Read) = IsOpen heading taken
 
 -- what is answered where this shows itself at the last of the first n bytes
 abbrev pub ended : Shown → List ℕ → ℕ → Result Fetched HttpFault

@@ -5,7 +5,7 @@ use Rattle.ba_http_head.specs.HeadLines.{IsOpen}
 use Rattle.std.proofs.KnownBytes.{Consumes-trans}
 use Rattle.ba_http_head.specs.Looks.{IsLooked, Shows}
 use Rattle.ba_http_head.specs.inside.Fetches.{Fetches, ended}
-use Rattle.ba_http_head.proofs.Steps.{fetched, nothing, kept, kept_on, empty, not_told, found_so}
+use Rattle.ba_http_head.proofs.Steps.{fetched, nothing, kept, kept_on, empty, not_read, found_so}
 use Rattle.ba_http_head.proofs.LookLemmas.{begun, open_short}
 use Rattle.ba_http_head.proofs.fetches.fetch_by.Goals as goal
 
@@ -38,10 +38,9 @@ pub returns-in-Err-clause-found : goal.returns-in-Err-clause-found
 returns-in-Err-clause-found g c =
     let told = c.in-Err.ensures in
     let few = told.few in
-    fetched c.args.heading (g.K.Link.left c.args.link.now) (g.K.Link.left c.reading.link)
-    (g.K.Link.left c.read_block.new.link) c.reading.hand few.0 (c.reading.hand ++ few.0) (Err c.in-Err.fault)
-    c.reading.invariant.taken few.1 c.reading.invariant.so_far.open_yet (omega (arith, few.2, c.reading.invariant.block)) refl
-    (not_told c.args.heading (c.reading.hand ++ few.0) (g.K.Link.left c.read_block.new.link) c.in-Err.fault told.faults)
+    not_read c.args.heading (g.K.Link.left c.args.link.now) (g.K.Link.left c.reading.link) (g.K.Link.left c.read_block.new.link)
+    c.reading.hand few.0 c.in-Err.fault c.reading.invariant.taken c.reading.invariant.so_far.open_yet told.faults few.1
+    (omega (arith, few.2, c.reading.invariant.block)) (λ read. told.none (ap Err read))
 
 pub reading-smaller : goal.reading-smaller
 reading-smaller g c =
