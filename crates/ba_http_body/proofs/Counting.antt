@@ -3,11 +3,14 @@ use Rattle.std.proofs.Common.{◌≡◌, ℕ, ◌+◌, ◌-◌, ◌<◌, ◌≤�
 use Rattle.std.proofs.lemmas.List.{take-append-le}
 use Rattle.std.proofs.lemmas.Bool.{cases_lt}
 use Rattle.std.proofs.Math.Seq.{take-append-add}
+use Rattle.std.specs.Io.KnownBytes.{Consumes, Keeps}
+use Rattle.std.proofs.KnownBytes.{Consumes-trans}
 use Rattle.ba_http_head.specs.declared.blocks.TheConstants.{BLOCK}
 use Rattle.ba_http_head.specs.declared.faults.HttpFault.{HttpFault}
 use Rattle.ba_http_head.specs.declared.faults.HttpFault.TheVariants.{Memory, BadHead, Length, TooLarge, BadChunk, Truncated, Read}
-use Rattle.ba_http_body.specs.Counted.{StopsAt, CountedSo}
-use Rattle.ba_http_body.specs.Remaining.{RemainingSo}
+use Rattle.ba_http_head.proofs.Steps.{none_of}
+use Rattle.ba_http_body.specs.Counted.{StopsAt, CountedSo, Counts}
+use Rattle.ba_http_body.specs.Remaining.{RemainingSo, EndsWithin}
 
 -- a prefix of two lists that reaches into the second, or not
 pub take-append : (n : ℕ) (xs ys : List ℕ) → take n (xs ++ ys) ≡ take n xs ++ take (n - length xs) ys
@@ -46,20 +49,45 @@ pub stops_on : (hand taken more : List ℕ) (count : ℕ) → length (hand ++ ta
     → StopsAt hand count (taken ++ more)
 stops_on hand taken more count short small = inr (taken, more, refl, short, small)
 
-pub fault_so : (old new : List ℕ → Type 0) (all : List ℕ) (count : ℕ) (left : Option (List ℕ)) (fault : HttpFault)
-    → (fault ≡ Memory) ⊎ (fault ≡ Read) → CountedSo old new all count left (Err fault)
-fault_so old new all count left fault which =
+-- a read that wasn't given on, or failed: these bytes more were taken, or none
+pub not_given : (old new : List ℕ → Type 0) (left_old left_mid left_new : Option (List ℕ)) (taken more : List ℕ) (count : ℕ)
+    (fault : HttpFault) → Consumes left_old left_mid taken → length taken < count → (fault ≡ Memory) ⊎ (fault ≡ Read)
+    → Consumes left_mid left_new more → length more ≤ BLOCK → (fault ≡ Read → Keeps left_mid left_new)
+    → Counts old new [] count left_old left_new (Err fault)
+not_given old new left_old left_mid left_new taken more count fault before short which last small same =
     elim which [
-      | inl memory ↦ subst (λ f. CountedSo old new all count left (Err f)) (sym memory) tt
-      | inr read ↦ subst (λ f. CountedSo old new all count left (Err f)) (sym read) tt
+      | inl memory ↦ (
+        taken ++ more,
+        Consumes-trans left_old left_mid left_new taken more before last,
+        stops_on [] taken more count short small,
+        subst (λ f. CountedSo old new (taken ++ more) count left_new (Err f)) (sym memory) tt,
+      )
+      | inr read ↦ (
+        taken ++ [],
+        Consumes-trans left_old left_mid left_new taken [] before (none_of left_mid left_new (same read)),
+        stops_on [] taken [] count short (omega arith),
+        subst (λ f. CountedSo old new (taken ++ []) count left_new (Err f)) (sym read) (omega (arith, short, length-append taken [])),
+      )
     ]
 
-pub remaining_fault : (old new : List ℕ → Type 0) (all : List ℕ) (past : ℕ) (left : Option (List ℕ)) (fault : HttpFault)
-    → (fault ≡ Memory) ⊎ (fault ≡ Read) → RemainingSo old new all past left (Err fault)
-remaining_fault old new all past left fault which =
+pub not_given_on : (old new : List ℕ → Type 0) (left_old left_mid left_new : Option (List ℕ)) (taken more : List ℕ) (past : ℕ)
+    (fault : HttpFault) → Consumes left_old left_mid taken → length taken < past → (fault ≡ Memory) ⊎ (fault ≡ Read)
+    → Consumes left_mid left_new more → length more ≤ BLOCK → (fault ≡ Read → Keeps left_mid left_new)
+    → EndsWithin old new [] past left_old left_new (Err fault)
+not_given_on old new left_old left_mid left_new taken more past fault before short which last small same =
     elim which [
-      | inl memory ↦ subst (λ f. RemainingSo old new all past left (Err f)) (sym memory) tt
-      | inr read ↦ subst (λ f. RemainingSo old new all past left (Err f)) (sym read) tt
+      | inl memory ↦ (
+        taken ++ more,
+        Consumes-trans left_old left_mid left_new taken more before last,
+        stops_on [] taken more past short small,
+        subst (λ f. RemainingSo old new (taken ++ more) past left_new (Err f)) (sym memory) tt,
+      )
+      | inr read ↦ (
+        taken ++ [],
+        Consumes-trans left_old left_mid left_new taken [] before (none_of left_mid left_new (same read)),
+        stops_on [] taken [] past short (omega arith),
+        subst (λ f. RemainingSo old new (taken ++ []) past left_new (Err f)) (sym read) (omega (arith, short, length-append taken [])),
+      )
     ]
 
 -- there are too many
@@ -90,7 +118,7 @@ module _ (hand taken : List ℕ) (past : ℕ) (within : length hand < past) wher
   after_all old mid new left (Err TooLarge) before so = omega (arith, so, within, length-append hand taken)
   after_all old mid new left (Err (BadChunk place)) before so = absurd so
   after_all old mid new left (Err Truncated) before so = absurd so
-  after_all old mid new left (Err Read) before so = tt
+  after_all old mid new left (Err Read) before so = omega (arith, so, within, length-append hand taken)
 
 -- what was at hand, and then what was read
 module _ (hand taken : List ℕ) (count first : ℕ) (is : first ≡ min count (length hand)) where
@@ -132,4 +160,4 @@ module _ (hand taken : List ℕ) (count first : ℕ) (is : first ≡ min count (
   after_hand old mid new left (Err TooLarge) before so = absurd so
   after_hand old mid new left (Err (BadChunk place)) before so = absurd so
   after_hand old mid new left (Err Truncated) before so = (omega (arith, so.0, is, length-append hand taken), so.1)
-  after_hand old mid new left (Err Read) before so = tt
+  after_hand old mid new left (Err Read) before so = omega (arith, so, is, length-append hand taken)

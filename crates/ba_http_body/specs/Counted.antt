@@ -21,7 +21,7 @@ CountedSo old new bytes count left (Err Length) = ⊥
 CountedSo old new bytes count left (Err TooLarge) = ⊥
 CountedSo old new bytes count left (Err (BadChunk place)) = ⊥
 CountedSo old new bytes count left (Err Truncated) = (length bytes < count) × IsAtEnd left
-CountedSo old new bytes count left (Err Read) = ⊤
+CountedSo old new bytes count left (Err Read) = length bytes < count
 
 abbrev pub Counts : (List ℕ → Type 0) → (List ℕ → Type 0) → List ℕ → ℕ → Option (List ℕ) → Option (List ℕ) → Result (Unit {0}) HttpFault
     → Type 0

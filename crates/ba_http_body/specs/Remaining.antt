@@ -15,7 +15,7 @@ RemainingSo old new bytes past left (Err Length) = ⊥
 RemainingSo old new bytes past left (Err TooLarge) = past ≤ length bytes
 RemainingSo old new bytes past left (Err (BadChunk place)) = ⊥
 RemainingSo old new bytes past left (Err Truncated) = ⊥
-RemainingSo old new bytes past left (Err Read) = ⊤
+RemainingSo old new bytes past left (Err Read) = length bytes < past
 
 -- some bytes were at hand, and the others were taken
 abbrev pub EndsWithin : (List ℕ → Type 0) → (List ℕ → Type 0) → List ℕ → ℕ → Option (List ℕ) → Option (List ℕ)

@@ -74,6 +74,7 @@ pub fn give_block<K: Link, T: Taker>(
     ensures end { IfOk result (λ n. n ≡ 0 → IsAtEnd (K.left link.new)) }
     ensures few { OnErr result (TakesAtMost (K.left link.old) (K.left link.new) (length block.old)) }
     ensures faults { IfErr result (λ fault. (fault ≡ HttpFault.Memory) ⊎ (fault ≡ HttpFault.Read)) }
+    ensures none { (result ≡ Err HttpFault.Read) → Keeps (K.left link.old) (K.left link.new) }
 
     ensures written { Keeps (K.written link.old) (K.written link.new) }
     ensures cause { (result ≡ Err HttpFault.Read) → Rose (K.faults link.old) (K.faults link.new) }

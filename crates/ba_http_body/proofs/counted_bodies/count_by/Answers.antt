@@ -1,6 +1,6 @@
-use Rattle.std.proofs.Common.{◌<◌, [], ◌++◌, length, length-append, arith, refl, inl, rules}
+use Rattle.std.proofs.Common.{◌<◌, [], ◌++◌, length, length-append, arith, refl, ap, Err, inl, rules}
 use Rattle.std.proofs.KnownBytes.{Consumes-trans, Consumes-nil, Keeps-refl, Keeps-trans}
-use Rattle.ba_http_body.proofs.Counting.{given_on, given_none, stops_on, fault_so}
+use Rattle.ba_http_body.proofs.Counting.{given_on, given_none, stops_on, not_given}
 use Rattle.ba_http_body.proofs.counted_bodies.count_by.Goals as goal
 
 pub reading-init : goal.reading-init
@@ -64,12 +64,8 @@ returns-in-Ok-eq0-clause-body g c =
 pub returns-in-Err-clause-body : goal.returns-in-Err-clause-body
 returns-in-Err-clause-body g c =
     let h = c.reading.invariant.taken in
-    let few = c.in-Err.ensures.few in
+    let told = c.in-Err.ensures in
     let left = g.K.Link.left in
-    let short : length h.0 < c.args.count = omega (arith, c.reading-test.true, h.2) in (
-      h.0 ++ few.0,
-      Consumes-trans (left c.args.link.now) (left c.reading.link) (left c.give_block.new.link) h.0 few.0 h.1 few.1,
-      stops_on [] h.0 few.0 c.args.count short (omega (arith, few.2, c.reading.invariant.block)),
-      fault_so (g.T.Taker.stands c.args.taker.now) (g.T.Taker.stands c.give_block.new.taker) (h.0 ++ few.0) c.args.count
-          (left c.give_block.new.link) c.in-Err.fault c.in-Err.ensures.faults,
-    )
+    not_given (g.T.Taker.stands c.args.taker.now) (g.T.Taker.stands c.give_block.new.taker) (left c.args.link.now) (left c.reading.link)
+    (left c.give_block.new.link) h.0 told.few.0 c.args.count c.in-Err.fault h.1 (omega (arith, c.reading-test.true, h.2)) told.faults told.few.1
+    (omega (arith, told.few.2, c.reading.invariant.block)) (λ read. told.none (ap Err read))
