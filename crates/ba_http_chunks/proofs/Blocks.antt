@@ -1,8 +1,9 @@
 -- A body in chunks, block by block; for the clauses `body` of chunks_by and read_chunked.
 use Rattle.std.proofs.Common.{◌≡◌, ℕ, ◌+◌, ◌-◌, ◌^◌, ◌<◌, ◌≤◌, List, [], ◌∷◌, ◌++◌, length, take, drop, refl, sym, ap, ◌∙◌, subst, inl, inr, arith, append-nil, append_assoc, length-append, take-append-drop, Option, None, Some, Result, Ok, Err}
 use Rattle.std.proofs.lemmas.List.{drop-take, length-take}
-use Rattle.std.specs.Io.KnownBytes.{Consumes, IsAtEnd}
-use Rattle.std.proofs.KnownBytes.{Consumes-nil}
+use Rattle.std.specs.Io.KnownBytes.{Consumes, IsAtEnd, Keeps}
+use Rattle.std.proofs.KnownBytes.{Consumes-nil, Consumes-trans}
+use Rattle.ba_http_head.proofs.Steps.{none_of}
 use Rattle.ba_http_head.specs.declared.blocks.TheConstants.{BLOCK}
 use Rattle.ba_http_head.specs.declared.faults.HttpFault.{HttpFault}
 use Rattle.ba_http_head.specs.declared.faults.HttpFault.TheVariants.{Memory, BadHead, Length, TooLarge, BadChunk, Truncated, Read}
@@ -67,7 +68,17 @@ module _ (so mid : List ℕ → Type 0) (c : Chunks) (fed body taken more : List
       (omega (arith, ap length none))
       (ends_there (λ given. so (given ++ body)) new (fed ++ (taken ++ piece)) left_mid (subst IsUnended same yet) at_end)
 
-  -- memory, or a fault of the connection
+  -- a fault of the connection, which took nothing
+  pub block_unread : (new : List ℕ → Type 0) (left_new : Option (List ℕ)) → Consumes left_old left_mid taken → Keeps left_mid left_new
+      → Unchunks (λ given. so (given ++ body)) new fed left_old left_new (Err Read)
+  block_unread new left_new consumed same = (
+    taken ++ [],
+    Consumes-trans left_old left_mid left_new taken [] consumed (none_of left_mid left_new same),
+    inr (taken, [], refl, yet, omega arith),
+    subst (λ v. IsUnended (fed ++ v)) (sym (append-nil taken)) yet,
+  )
+
+  -- memory
   pub block_silent : (new : List ℕ → Type 0) (piece : List ℕ) (fault : HttpFault) → Consumes left_old left_mid (taken ++ piece)
       → length piece ≤ BLOCK → Unchunks (λ given. so (given ++ body)) new (fed ++ (taken ++ piece)) left_mid left_mid (Err fault)
       → Unchunks (λ given. so (given ++ body)) new fed left_old left_mid (Err fault)
@@ -87,9 +98,6 @@ module _ (so mid : List ℕ → Type 0) (c : Chunks) (fed body taken more : List
 
 pub silent_memory : (old new : List ℕ → Type 0) (hand : List ℕ) (left : Option (List ℕ)) → Unchunks old new hand left left (Err Memory)
 silent_memory old new hand left = ([], Consumes-nil left, inl refl, tt)
-
-pub silent_read : (old new : List ℕ → Type 0) (hand : List ℕ) (left : Option (List ℕ)) → Unchunks old new hand left left (Err Read)
-silent_read old new hand left = ([], Consumes-nil left, inl refl, tt)
 
 -- the bytes of a block after a place
 pub rest_of : (block : List ℕ) (at size : ℕ) → at ≤ size → take (size - at) (drop at block) ≡ drop at (take size block)

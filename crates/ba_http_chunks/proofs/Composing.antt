@@ -97,7 +97,7 @@ module _ (old new : List ℕ → Type 0) (count : ℕ) (fed body rest : List ℕ
         ),
       )
   so bytes left (Err Truncated) gives t = (in_it bytes t.0, t.1)
-  so bytes left (Err Read) gives t = tt
+  so bytes left (Err Read) gives t = in_it bytes t
 
   pub with_trailer : (left_old left_new : Option (List ℕ)) (result : Result (Unit {0}) HttpFault) → Gives old new body
       → ReadsTrailer rest count left_old left_new result → Unchunks old new (fed ++ rest) left_old left_new result

@@ -2,7 +2,7 @@
 use Rattle.std.proofs.Common.{◌≡◌, ℕ, ◌+◌, ◌-◌, ◌^◌, ◌<◌, ◌≤◌, ◌⊎◌, inl, inr, min, List, [], ◌∷◌, ◌++◌, length, take, refl, sym, ap, ◌∙◌, subst, arith, append-nil, append_assoc, length-append, Option, Result, Ok, Err}
 use Rattle.std.proofs.lemmas.Bool.{cases_lt}
 use Rattle.std.proofs.Math.Seq.{take-append_seam}
-use Rattle.std.specs.Io.KnownBytes.{Consumes, IsAtEnd}
+use Rattle.std.specs.Io.KnownBytes.{Consumes, IsAtEnd, Keeps}
 use Rattle.std.proofs.KnownBytes.{Consumes-trans, Consumes-nil}
 use Rattle.ba_http_head.specs.declared.blocks.TheConstants.{BLOCK}
 use Rattle.ba_http_head.specs.declared.faults.HttpFault.{HttpFault}
@@ -13,6 +13,7 @@ use Rattle.ba_http_head.specs.declared.scans.Shown.TheVariants.{Whole, Bad, Larg
 use Rattle.ba_http_head.specs.declared.scans.TheConstants.{MOST_HEAD}
 use Rattle.ba_http_head.specs.HeadLines.{IsOpen}
 use Rattle.ba_http_head.specs.Looks.{Shows}
+use Rattle.ba_http_head.proofs.Steps.{none_of}
 use Rattle.ba_http_chunks.specs.inside.Trailers.{answer_to, TrailerSo, StopsOpen, ReadsTrailer}
 
 -- the place of a bad line is within the limit
@@ -37,12 +38,18 @@ trailer_on hand all taken count old mid new more result is before last yet small
   subst (λ v. TrailerSo v count new result) (ap (λ v. v ++ more) is ∙ append_assoc hand taken more) so,
 )
 
-pub trailer_fault : (all : List ℕ) (count : ℕ) (left : Option (List ℕ)) (fault : HttpFault) → (fault ≡ Memory) ⊎ (fault ≡ Read)
-    → TrailerSo all count left (Err fault)
-trailer_fault all count left fault which =
+-- a read that wasn't appended, or failed
+pub trailer_unread : (hand all taken : List ℕ) (count : ℕ) (old mid new : Option (List ℕ)) (more : List ℕ) (fault : HttpFault)
+    → all ≡ hand ++ taken → Consumes old mid taken → IsOpen Trailer all → (fault ≡ Memory) ⊎ (fault ≡ Read) → Consumes mid new more
+    → length more ≤ BLOCK → (fault ≡ Read → Keeps mid new) → ReadsTrailer hand count old new (Err fault)
+trailer_unread hand all taken count old mid new more fault is before yet which last small same =
     elim which [
-      | inl memory ↦ subst (λ f. TrailerSo all count left (Err f)) (sym memory) tt
-      | inr read ↦ subst (λ f. TrailerSo all count left (Err f)) (sym read) tt
+      | inl memory ↦
+          trailer_on hand all taken count old mid new more (Err fault) is before last yet small
+          (subst (λ f. TrailerSo (all ++ more) count new (Err f)) (sym memory) tt)
+      | inr read ↦
+          trailer_on hand all taken count old mid new [] (Err fault) is before (none_of mid new (same read)) yet (omega arith)
+          (subst (λ f. TrailerSo (all ++ []) count new (Err f)) (sym read) (subst (IsOpen Trailer) (sym (append-nil all)) yet))
     ]
 
 -- what shows itself of all so far, to which the last read may have added

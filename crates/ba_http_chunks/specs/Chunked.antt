@@ -22,7 +22,7 @@ ChunkedSo old new bytes left (Err Length) = ⊥
 ChunkedSo old new bytes left (Err TooLarge) = (n : ℕ) × (n ≤ length bytes) × Passes (take n bytes)
 ChunkedSo old new bytes left (Err (BadChunk place)) = (n : ℕ) × (n ≤ length bytes) × Breaks (take n bytes) place
 ChunkedSo old new bytes left (Err Truncated) = IsUnended bytes × IsAtEnd left
-ChunkedSo old new bytes left (Err Read) = ⊤
+ChunkedSo old new bytes left (Err Read) = IsUnended bytes
 
 abbrev pub Unchunks : (List ℕ → Type 0) → (List ℕ → Type 0) → List ℕ → Option (List ℕ) → Option (List ℕ) → Result (Unit {0}) HttpFault
     → Type 0

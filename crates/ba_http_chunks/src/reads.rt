@@ -2,7 +2,6 @@
 ghost use Rattle.std.specs.Prelude.{◌≡◌, ◌<◌, ◌≤◌, ℕ, List, ◌++◌, length, take, OnErr, IfOk, IfErr, Err};
 ghost use Rattle.std.specs.Io.KnownBytes.{Consumes, IsAtEnd, Keeps};
 ghost use Rattle.ba_ports.specs.Causes.{Rose};
-ghost use Rattle.ba_ports.specs.Inputs.{TakesAtMost};
 ghost use Rattle.ba_http_chunks.specs.Chunked.{Unchunks};
 ghost use Rattle.ba_http_chunks.specs.inside.Progress.{Stands};
 
@@ -92,8 +91,8 @@ fn read_some<K: Link>(link: &mut K, block: &mut [u8]) -> Result<usize, HttpFault
     requires { 0 < length block.old }
     ensures taken { IfOk result (λ n. (n ≤ length block.old) × Consumes (K.left link.old) (K.left link.new) (take n block.new)) }
     ensures end { IfOk result (λ n. n ≡ 0 → IsAtEnd (K.left link.new)) }
-    ensures few { OnErr result (TakesAtMost (K.left link.old) (K.left link.new) (length block.old)) }
     ensures fault { IfErr result (λ fault. fault ≡ HttpFault.Read) }
+    ensures none { OnErr result (Keeps (K.left link.old) (K.left link.new)) }
     ensures block { length block.new ≡ length block.old }
 
     ensures written { Keeps (K.written link.old) (K.written link.new) }

@@ -26,7 +26,7 @@ TrailerSo bytes count left (Err TooLarge) = (n : ℕ) × (n ≤ length bytes) ×
 TrailerSo bytes count left (Err (BadChunk place)) =
     (n : ℕ) × (n ≤ length bytes) × (at : ℕ) × Shows Trailer (take n bytes) (Bad at) × (place ≡ min (count + at) (2 ^ 64 - 1))
 TrailerSo bytes count left (Err Truncated) = IsOpen Trailer bytes × IsAtEnd left
-TrailerSo bytes count left (Err Read) = ⊤
+TrailerSo bytes count left (Err Read) = IsOpen Trailer bytes
 
 -- of a trailer some bytes were at hand, and these were taken: none, or some with which nothing had shown itself yet, and then a block
 abbrev pub StopsOpen : List ℕ → List ℕ → Type 0

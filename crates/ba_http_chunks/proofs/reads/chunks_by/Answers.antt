@@ -4,7 +4,7 @@ use Rattle.ba_http_head.specs.declared.faults.HttpFault.TheVariants.{Memory}
 use Rattle.ba_http_chunks.specs.inside.Progress.{Stands, Feeds}
 use Rattle.ba_http_chunks.proofs.Composing.{gives_none, gives_on}
 use Rattle.ba_http_chunks.specs.Chunked.{Unchunks}
-use Rattle.ba_http_chunks.proofs.Blocks.{piece_ended, block_ended, block_fault, block_end, block_silent, block_on, silent_memory, silent_read, rest_of, small_piece, within_size, some_piece, falls, not_none}
+use Rattle.ba_http_chunks.proofs.Blocks.{piece_ended, block_ended, block_fault, block_end, block_silent, block_unread, block_on, silent_memory, rest_of, small_piece, within_size, some_piece, falls, not_none}
 use Rattle.ba_http_chunks.proofs.TrailerSteps.{none_taken}
 use Rattle.ba_http_chunks.proofs.Standing.{bounded}
 use Rattle.ba_http_chunks.proofs.reads.chunks_by.Goals as goal
@@ -42,14 +42,10 @@ returns-in-Err-clause-body g c = λ fed body s.
     let so = g.T.Taker.stands in
     let left = g.K.Link.left in
     let h = c.reading.invariant.taken fed body s in
-    let few = c.in-Err.ensures.few in
-    block_silent (so c.args.taker.now) (so c.reading.taker) c.reading.chunks fed body h.0 h.1 (left c.args.link.now)
-    (left c.read_some.new.link) h.3 h.4 (so c.reading.taker) few.0 c.in-Err.fault
-    (Consumes-trans (left c.args.link.now) (left c.reading.link) (left c.read_some.new.link) h.0 few.0 h.2 few.1)
-    (omega (arith, few.2, c.reading.invariant.block))
-    (subst (λ f. Unchunks (λ given. so c.args.taker.now (given ++ body)) (so c.reading.taker) (fed ++ (h.0 ++ few.0))
-    (left c.read_some.new.link) (left c.read_some.new.link) (Err f)) (sym c.in-Err.ensures.fault)
-    (silent_read (λ given. so c.args.taker.now (given ++ body)) (so c.reading.taker) (fed ++ (h.0 ++ few.0)) (left c.read_some.new.link)))
+    subst (λ f. Unchunks (λ given. so c.args.taker.now (given ++ body)) (so c.reading.taker) fed (left c.args.link.now)
+    (left c.read_some.new.link) (Err f)) (sym c.in-Err.ensures.fault)
+    (block_unread (so c.args.taker.now) (so c.reading.taker) c.reading.chunks fed body h.0 h.1 (left c.args.link.now)
+    (left c.reading.link) h.3 h.4 (so c.reading.taker) (left c.read_some.new.link) h.2 c.in-Err.ensures.none)
 
 pub returns-in-Err-feed-clause-body : goal.returns-in-Err-feed-clause-body
 returns-in-Err-feed-clause-body g c = λ fed body s.

@@ -7,7 +7,7 @@ use Rattle.ba_http_head.specs.Looks.{IsLooked, Shows}
 use Rattle.ba_http_head.proofs.Steps.{empty}
 use Rattle.ba_http_head.proofs.LookLemmas.{begun, open_short}
 use Rattle.ba_http_chunks.specs.inside.Trailers.{answer_to, TrailerSo, ReadsTrailer}
-use Rattle.ba_http_chunks.proofs.TrailerSteps.{trailer_on, trailer_fault, trailer_shown, none_taken, looked_whole, stops_after}
+use Rattle.ba_http_chunks.proofs.TrailerSteps.{trailer_on, trailer_unread, trailer_shown, none_taken, looked_whole, stops_after}
 use Rattle.ba_http_chunks.proofs.trailers.read_trailer.Goals as goal
 
 pub reading-init : goal.reading-init
@@ -53,10 +53,11 @@ returns-in-Err-clause-trailer g c =
     let t = c.reading.invariant.taken in
     let left = g.K.Link.left in
     let looked = subst (λ v. IsLooked Trailer v c.scan.new.line) c.as_slice.ensures (c.in-None.ensures.more refl).1 in
-    let few = c.in-Err.ensures.few in
-    trailer_on c.args.hand c.reading.bytes t.0 c.args.count (left c.args.link.now) (left c.reading.link) (left c.read_block.new.link)
-    few.0 (Err c.in-Err.fault) t.2 t.1 few.1 looked.open_yet (omega (arith, few.2, c.reading.invariant.block))
-    (trailer_fault (c.reading.bytes ++ few.0) c.args.count (left c.read_block.new.link) c.in-Err.fault c.in-Err.ensures.faults)
+    let told = c.in-Err.ensures in
+    let few = told.few in
+    trailer_unread c.args.hand c.reading.bytes t.0 c.args.count (left c.args.link.now) (left c.reading.link) (left c.read_block.new.link)
+    few.0 c.in-Err.fault t.2 t.1 looked.open_yet told.faults few.1 (omega (arith, few.2, c.reading.invariant.block))
+    (λ read. told.none (ap Err read))
 
 pub reading-smaller : goal.reading-smaller
 reading-smaller g c =
