@@ -9,7 +9,7 @@ use Rattle.ba_ports.specs.Inputs.{TakesAtMost}
 use Rattle.ba_ports.specs.Lines.{lines_of, bytes_of}
 use Rattle.ba_ports.specs.Outputs.{WritesPart}
 use Rattle.ba_script.specs.Printer.{shown_lines}
-use Rattle.ba_script.specs.Scripts.{IsPairScript, IsBadScript, IsLongScript, lookahead}
+use Rattle.ba_script.specs.Scripts.{NumberedEvent, IsPairScript, IsWorldScript, IsBadScript, IsLongScript, lookahead}
 use Rattle.ba_script.specs.declared.scripts.TheConstants.{MOST_LINES}
 use Rattle.ba_replay.specs.declared.faults.ReplayFault.{ReplayFault}
 use Rattle.ba_replay.specs.declared.faults.ReplayFault.TheVariants as fault
@@ -54,10 +54,10 @@ pub record PrintsPrefix (input : List ℕ) (before now : Option (List ℕ)) : Ty
   pub written : WritesPart before now (shown_lines (play (starting_pair protocol) events).lines)
   pub safe : IsSafePlay (play (starting_pair protocol) events)
 
--- The input is refused at its first bad line, which has this number. Nothing was written, and little was read
--- past the line.
-pub record RefusesLine (input : List ℕ) (number : ℕ) (rest before now : Option (List ℕ)) : Type 0 where
-  pub bad : IsBadScript input number
+-- The input is refused at its first bad line, which has this number and is bad at this column. Nothing was written,
+-- and little was read past the line.
+pub record RefusesLine (input : List ℕ) (number column : ℕ) (rest before now : Option (List ℕ)) : Type 0 where
+  pub bad : IsBadScript input number column
   pub kept : Keeps before now
   pub taken : TakesAtMost (Some input) rest (bytes_of (take (number - 1) (lines_of input)) + lookahead)
 
@@ -67,10 +67,18 @@ pub record RefusesLength (input : List ℕ) (rest before now : Option (List ℕ)
   pub kept : Keeps before now
   pub taken : TakesAtMost (Some input) rest (bytes_of (take MOST_LINES (lines_of input)) + lookahead)
 
+-- The input is a script of a world, which isn't played for now. Nothing was written.
+pub record RefusesWorld (input : List ℕ) (before now : Option (List ℕ)) : Type 0 where
+  pub nodes : ℕ
+  pub events : List NumberedEvent
+  pub script : IsWorldScript input nodes events
+  pub kept : Keeps before now
+
 -- why a replay of this input ended early, and what it had written, where this was left to read: at want of memory
 -- whole lines alone, or nothing; where the output failed, whatever it had taken of the play
 abbrev pub StopsReplay : List ℕ → Option (List ℕ) → Option (List ℕ) → Option (List ℕ) → ReplayFault → Type 0
-StopsReplay input rest before now (fault.BadLine number column) = (column ≡ 0) × RefusesLine input number rest before now
+StopsReplay input rest before now (fault.BadLine number column) = RefusesLine input number column rest before now
+StopsReplay input rest before now fault.World = RefusesWorld input before now
 StopsReplay input rest before now fault.TooManyLines = RefusesLength input rest before now
 StopsReplay input rest before now (fault.NoSuchMessage number) = PrintsUpTo input number before now
 StopsReplay input rest before now fault.Read = Keeps before now

@@ -11,12 +11,15 @@ pub enum ReplayFault {
     Read,
     #[error("write")]
     Write,
-    /// The first line that no script has there, and the column of its first word that is wrong;
-    /// the column is 0 for now.
+    /// The first line that no script has there, and the column, from 1, of its first word that no form allows; one
+    /// past its end where a word is missing, and 257 where the line is too long.
     #[error("line {0} column {1}")]
     BadLine(u32, u32),
     #[error("limit")]
     TooManyLines,
+    /// The script is of a world, and worlds can't be replayed for now.
+    #[error("worlds are not replayed")]
+    World,
     /// The event of this line names a message that isn't in the bag.
     #[error("line {0} no such message")]
     NoSuchMessage(u32),

@@ -3,9 +3,8 @@ ghost use Rattle.std.specs.Prelude.{◌≡◌, ◌⊎◌, IsTrue, IfErr, IfSome,
 ghost use Rattle.std.specs.Io.KnownBytes.{Appends, IsAtEnd, Keeps};
 ghost use Rattle.ba_ports.specs.Causes.{Rose};
 ghost use Rattle.ba_ports.specs.Inputs.{TakesAtMost};
-ghost use Rattle.ba_script.specs.Printer.{shown_lines};
 ghost use Rattle.ba_replay.specs.Replay.{PrintsPlay, StopsReplay, most_of_script};
-ghost use Rattle.ba_replay.specs.inside.Plays.{BreaksOff, play_of, unplayed_fault, unread_fault};
+ghost use Rattle.ba_replay.specs.inside.Plays.{unplayed_fault, unread_fault};
 
 use crate::faults::ReplayFault;
 use crate::plays::{PlayFault, play_pair};
@@ -13,7 +12,7 @@ use ba_ports::{Sink, Source};
 use ba_script::{Script, ScriptFault, read_script};
 use std::alloc::Global;
 
-/// Reads a script, plays it and writes its lines.
+/// Reads a script of a pair, plays it and writes its lines. A script of a world is refused for now.
 pub fn replay<S: Source, K: Sink>(
     alloc: Global,
     source: &mut S,
@@ -38,23 +37,15 @@ pub fn replay<S: Source, K: Sink>(
     ensures bounded { TakesAtMost (S.left source.old) (S.left source.new) most_of_script }
 {
     match read_script(alloc, source) {
-        Ok(script) => match play_script(alloc, script, sink) {
-            Ok(()) => Ok(()),
-            Err(fault) => Err(unplayed_fault(fault)),
-        },
+        Ok(Script::Pair(protocol, events)) => {
+            match play_pair(alloc, protocol, events.as_slice(), sink) {
+                Ok(()) => Ok(()),
+                Err(fault) => Err(unplayed_fault(fault)),
+            }
+        }
+        Ok(Script::World(_nodes, _events)) => Err(ReplayFault::World),
         Err(fault) => Err(unread_fault(fault)),
     }
-}
-
-// Plays a script, and writes its lines.
-fn play_script<K: Sink>(alloc: Global, script: Script, sink: &mut K) -> Result<(), PlayFault>
-    ensures whole { OnOk result ((play_of script).stopped_at ≡ None) }
-    ensures written { OnOk result (Appends (K.written sink.old) (K.written sink.new) (shown_lines (play_of script).lines)) }
-    ensures broken { IfErr result (BreaksOff (play_of script) (K.written sink.old) (K.written sink.new)) }
-    ensures cause { (result ≡ Err PlayFault.Write) → Rose (K.faults sink.old) (K.faults sink.new) ⊎ IsTrue (K.took_nothing sink.new) }
-{
-    let Script::Pair(protocol, events) = script;
-    play_pair(alloc, protocol, events.as_slice(), sink)
 }
 
 // The fault of a replay whose script wasn't read.

@@ -1,12 +1,9 @@
 -- Inside: how a play breaks off, what is held of it, and the faults of a replay by those of its parts.
 use Rattle.std.specs.Prelude.{◌≡◌, ℕ, ◌⊎◌, List, [], ◌++◌, Option, None, Some}
 use Rattle.std.specs.Io.KnownBytes.{Appends, Keeps}
-use Rattle.ba_pair.specs.PairPlay.{Effect, Play, play}
-use Rattle.ba_pair.specs.PairState.{starting_pair}
+use Rattle.ba_pair.specs.PairPlay.{Effect, Play}
 use Rattle.ba_ports.specs.Outputs.{WritesPart}
 use Rattle.ba_script.specs.Printer.{numbered_line, shown_lines}
-use Rattle.ba_script.specs.declared.scripts.Script.{Script}
-use Rattle.ba_script.specs.declared.scripts.Script.TheVariants.{Pair}
 use Rattle.ba_script.specs.declared.scripts.ScriptFault.{ScriptFault}
 use Rattle.ba_script.specs.declared.scripts.ScriptFault.TheVariants as script
 use Rattle.ba_replay.specs.Replay.{WritesFirstLines}
@@ -14,10 +11,6 @@ use Rattle.ba_replay.specs.declared.faults.ReplayFault.{ReplayFault}
 use Rattle.ba_replay.specs.declared.faults.ReplayFault.TheVariants as fault
 use Rattle.ba_replay.specs.declared.plays.PlayFault.{PlayFault}
 use Rattle.ba_replay.specs.declared.plays.PlayFault.TheVariants as played
-
--- the play of a script
-abbrev pub play_of : Script → Play
-play_of (Pair protocol events) = play (starting_pair protocol) events
 
 -- a play that broke off: what was written of it, and why
 abbrev pub BreaksOff : Play → Option (List ℕ) → Option (List ℕ) → PlayFault → Type 0
