@@ -71,7 +71,7 @@ module _ (heading : Heading) (all hand taken : List ℕ) (n : ℕ) (start : Star
     ),
     told.3,
   )
-  so left (Err Read) told = tt
+  so left (Err Read) told = inr (said, (take n all, hand ++ taken, start, cut taken, is, told))
 
   -- nothing has shown itself of the body
   pub unfinished : (more : List ℕ) → IsShort said (hand ++ more) → IsUnfinished heading (all ++ more)
@@ -123,7 +123,7 @@ fault_so heading taken left TooLarge told =
     ]
 fault_so heading taken left (BadChunk place) told = absurd told
 fault_so heading taken left Truncated told = (inl told.0, told.1)
-fault_so heading taken left Read told = tt
+fault_so heading taken left Read told = inl told
 
 pub no_head : (heading : Heading) (old new : Option (List ℕ)) (fault : HttpFault) → Opens heading old new (Err fault)
     → Reads heading old new (Err fault)

@@ -52,3 +52,7 @@ after_refusal heading old new (BadChunk place) r m t f =
     little heading old new r.0 r.1 (Err (BadChunk place)) r.2 r.3 r.4 r.5.0 r.5.1 r.5.2
 after_refusal heading old new Truncated r m t f = absurd (t refl)
 after_refusal heading old new Read r m t f = absurd (f refl)
+
+pub before_failure : (heading : Heading) (old new : Option (List ℕ)) → Reads heading old new (Err Read)
+    → (taken : List ℕ) × Consumes old new taken × IsUnfinished heading taken
+before_failure heading old new r = (r.0 ++ r.1, r.2, r.5)

@@ -34,7 +34,7 @@ module _ (old new : List ℕ → Type 0) where
   counted count bytes left (Err TooLarge) so = absurd so
   counted count bytes left (Err (BadChunk place)) so = absurd so
   counted count bytes left (Err Truncated) so = (Counted count, refl, so.0, so.1)
-  counted count bytes left (Err Read) so = tt
+  counted count bytes left (Err Read) so = so
 
   chunked : (bytes : List ℕ) (left : Option (List ℕ)) (result : Result (Unit {0}) HttpFault)
       → ChunkedSo old new bytes left result → Told (Some Chunked) bytes left result
@@ -45,7 +45,7 @@ module _ (old new : List ℕ → Type 0) where
   chunked bytes left (Err TooLarge) so = so
   chunked bytes left (Err (BadChunk place)) so = so
   chunked bytes left (Err Truncated) so = (Chunked, refl, so.0, so.1)
-  chunked bytes left (Err Read) so = tt
+  chunked bytes left (Err Read) so = so
 
   remaining : (bytes : List ℕ) (left : Option (List ℕ)) (result : Result (Unit {0}) HttpFault)
       → RemainingSo old new bytes (MOST_BODY + 1) left result → Told None bytes left result
@@ -56,7 +56,7 @@ module _ (old new : List ℕ → Type 0) where
   remaining bytes left (Err TooLarge) so = (MOST_BODY + 1, so, length-take-le (MOST_BODY + 1) bytes so)
   remaining bytes left (Err (BadChunk place)) so = absurd so
   remaining bytes left (Err Truncated) so = absurd so
-  remaining bytes left (Err Read) so = tt
+  remaining bytes left (Err Read) so = omega (arith, so)
 
   pub body_given : (said : Option Length) (hand : List ℕ) (left_old left_new : Option (List ℕ))
       → GivesBody old new said hand left_old left_new (Ok tt)

@@ -88,7 +88,7 @@ MessageSo heading taken left (Err NoLength) = (n : ℕ) × (n ≤ length taken) 
 MessageSo heading taken left (Err TooLarge) = (n : ℕ) × (n ≤ length taken) × Decides heading (take n taken) (Err TooLarge)
 MessageSo heading taken left (Err (BadChunk place)) = (n : ℕ) × (n ≤ length taken) × Decides heading (take n taken) (Err (BadChunk place))
 MessageSo heading taken left (Err Truncated) = IsCutShort heading taken × IsAtEnd left
-MessageSo heading taken left (Err Read) = ⊤
+MessageSo heading taken left (Err Read) = IsUnfinished heading taken
 
 -- Bytes were taken with which nothing had shown itself yet, and then a block at most.
 abbrev pub Reads : Heading → Option (List ℕ) → Option (List ℕ) → Result Message HttpFault → Type 0

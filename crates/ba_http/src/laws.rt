@@ -56,7 +56,8 @@ pub fn a_head_and_its_body_are_a_message<T: Taker>()
         → Reads heading old new (Err fault) }
 {}
 
-/// Less than a block is taken after the byte at which a message or its refusal shows itself.
+/// Less than a block is taken after the byte at which a message or its refusal shows itself, and a read that fails was made
+/// while nothing had.
 pub fn less_than_a_block_is_taken_after_an_answer()
     ensures message { (heading : Heading) (old new : Option (List ℕ)) (message : Message) → Reads heading old new (Ok message)
         → TakesLittleMore heading old new (Ok message)
@@ -64,6 +65,8 @@ pub fn less_than_a_block_is_taken_after_an_answer()
     ensures refusal { (heading : Heading) (old new : Option (List ℕ)) (fault : HttpFault) → Reads heading old new (Err fault)
         → fault ≢ HttpFault.Memory → fault ≢ HttpFault.Truncated → fault ≢ HttpFault.Read
         → TakesLittleMore heading old new (Err fault) }
+    ensures failure { (heading : Heading) (old new : Option (List ℕ)) → Reads heading old new (Err HttpFault.Read)
+        → (taken : List ℕ) × Consumes old new taken × IsUnfinished heading taken }
 {}
 
 /// Whatever the cuts, what is read of a link that says its bytes is one answer, but for want of memory and faults of the link.

@@ -25,7 +25,7 @@ BodySo said bytes left (Err NoLength) = ⊥
 BodySo said bytes left (Err TooLarge) = (n : ℕ) × (n ≤ length bytes) × EndsBody said (take n bytes) large
 BodySo said bytes left (Err (BadChunk place)) = (n : ℕ) × (n ≤ length bytes) × EndsBody said (take n bytes) (broken place)
 BodySo said bytes left (Err Truncated) = (length : Length) × (said ≡ Some length) × IsShort said bytes × IsAtEnd left
-BodySo said bytes left (Err Read) = ⊤
+BodySo said bytes left (Err Read) = IsShort said bytes
 
 abbrev pub ReadsBody : Option Length → List ℕ → Option (List ℕ) → Option (List ℕ) → Result (List ℕ) HttpFault → Type 0
 ReadsBody said hand left_old left_new result =
