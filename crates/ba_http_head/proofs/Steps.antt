@@ -54,7 +54,8 @@ not_read heading old mid new hand more fault before yet which last small same =
           fetched heading old mid new hand more (hand ++ more) (Err fault) before last yet small refl
           (subst (λ f. FetchedSo heading (hand ++ more) new (Err f)) (sym memory) tt)
       | inr read ↦
-          fetched heading old mid new hand [] hand (Err fault) before (none_of mid new (same read)) yet (omega arith) (sym (append-nil hand))
+          fetched heading old mid new hand [] hand (Err fault) before (none_of mid new (same read)) yet (omega arith)
+          (sym (append-nil hand))
           (subst (λ f. FetchedSo heading hand new (Err f)) (sym read) yet)
     ]
 

@@ -67,5 +67,6 @@ returns-in-Err-clause-body g c =
     let told = c.in-Err.ensures in
     let left = g.K.Link.left in
     not_given (g.T.Taker.stands c.args.taker.now) (g.T.Taker.stands c.give_block.new.taker) (left c.args.link.now) (left c.reading.link)
-    (left c.give_block.new.link) h.0 told.few.0 c.args.count c.in-Err.fault h.1 (omega (arith, c.reading-test.true, h.2)) told.faults told.few.1
+    (left c.give_block.new.link) h.0 told.few.0 c.args.count c.in-Err.fault h.1 (omega (arith, c.reading-test.true, h.2))
+    told.faults told.few.1
     (omega (arith, told.few.2, c.reading.invariant.block)) (λ read. told.none (ap Err read))
