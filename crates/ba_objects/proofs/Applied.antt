@@ -1,7 +1,7 @@
 -- A change is done at its place; for the doing of a plan.
 use Rattle.std.proofs.Common.{◌≡◌, ℕ, ◌<◌, List, [], ◌∷◌, ◌++◌, Option, Some, length, slice_get, slice_set, sym, ap, ◌∙◌, subst}
 use Rattle.std.proofs.lemmas.Option.{slice_get_within}
-use Rattle.ba_objects.specs.Changes.{Suits, SuitsPart, SuitsScope, changed_node, changed_part, changed_scope, with_changed}
+use Rattle.ba_objects.specs.Changes.{Suits, SuitsScope, changed_node, changed_part, changed_scope, with_changed}
 use Rattle.ba_objects.specs.Objects.{NodeInMemory}
 use Rattle.ba_objects.specs.declared.changes.Change.{Change}
 use Rattle.ba_objects.specs.declared.changes.Change.TheVariants as changes
@@ -9,7 +9,7 @@ use Rattle.ba_objects.specs.declared.changes.PartChange.{PartChange}
 use Rattle.ba_objects.specs.declared.changes.ScopeChange.{ScopeChange}
 use Rattle.ba_scope.proofs.Lists.{some_branch}
 use Rattle.ba_scope.specs.Scope.{ScopeState}
-use Rattle.ba_scope.specs.declared.parts.Part.{Part}
+use Rattle.ba_ends.specs.declared.parts.Part.{Part}
 use Rattle.ba_steps.specs.Node.{NodeState}
 
 one_item : {A : Type 0} (xs : Option A) (x y : A) → xs ≡ Some x → xs ≡ Some y → x ≡ y
@@ -44,12 +44,6 @@ pub part_within : (m : NodeInMemory) (place : ℕ) (change : PartChange) (c : Ch
 part_within m place change c is suits =
     let here : Suits m (changes.Part place change) = subst (Suits m) is suits in
     slice_get_within m.node.parts place here.0 here.1
-
-pub part_asks : (m : NodeInMemory) (place : ℕ) (p : Part) (change : PartChange) (c : Change) → c ≡ changes.Part place change
-    → Suits m c → slice_get m.node.parts place ≡ Some p → SuitsPart p change
-part_asks m place p change c is suits found =
-    let here : Suits m (changes.Part place change) = subst (Suits m) is suits in
-    subst (λ (q : Part). SuitsPart q change) (one_item (slice_get m.node.parts place) here.0 p here.1 found) here.2
 
 pub part_applied : (n : NodeState) (place : ℕ) (p new : Part) (change : PartChange) (c : Change) → c ≡ changes.Part place change
     → slice_get n.parts place ≡ Some p → new ≡ changed_part change p → record n { parts = slice_set n.parts place new } ≡ changed_node n c

@@ -6,7 +6,7 @@ use Rattle.std.specs.List.{sum_by}
 use Rattle.ba_core.specs.declared.identifiers.Id.{Id}
 use Rattle.ba_objects.specs.inside.Counts.{id_count}
 use Rattle.ba_scope.specs.Scope.{ScopeState}
-use Rattle.ba_scope.specs.declared.parts.Part.{Part}
+use Rattle.ba_ends.specs.declared.parts.Part.{Part}
 use Rattle.ba_steps.proofs.Objects.{end_ids, ids_in_scopes, lone_ids, up_ids}
 use Rattle.ba_steps.specs.Fits.{NodeFits}
 use Rattle.ba_steps.specs.Node.{NodeState, counter, ids, last, scope_ids}

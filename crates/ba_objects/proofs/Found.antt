@@ -6,11 +6,13 @@ use Rattle.ba_core.specs.PartRows.{is_part_state}
 use Rattle.ba_core.specs.declared.identifiers.Id.{Id}
 use Rattle.ba_objects.specs.Finds.{FindsEnd, FindsLone, FindsScope, FindsUp, end_at}
 use Rattle.ba_scope.proofs.Owned.{own_states}
-use Rattle.ba_scope.proofs.Places.{found_passes, none_found, place_found}
-use Rattle.ba_scope.specs.Fits.{ScopeFits, has_own_state, part_fits, up_fits}
-use Rattle.ba_scope.specs.Scope.{ScopeState, end_with_id, is_id_above, same_id}
-use Rattle.ba_scope.specs.declared.ends.End.{End}
-use Rattle.ba_scope.specs.declared.parts.Part.{Part}
+use Rattle.ba_ends.proofs.Places.{found_passes, none_found, place_found}
+use Rattle.ba_ends.specs.Ends.{end_with_id, has_own_state, same_id}
+use Rattle.ba_ends.specs.Parts.{part_fits}
+use Rattle.ba_scope.specs.Fits.{ScopeFits, up_fits}
+use Rattle.ba_scope.specs.Scope.{ScopeState, is_id_above}
+use Rattle.ba_ends.specs.declared.ends.End.{End}
+use Rattle.ba_ends.specs.declared.parts.Part.{Part}
 use Rattle.ba_steps.proofs.Members.{all_among, same_id_is}
 use Rattle.ba_steps.proofs.Objects.{lone_fits, scope_fits}
 use Rattle.ba_steps.proofs.Places.{end_found, first_is, scope_found}

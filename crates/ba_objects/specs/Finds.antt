@@ -2,10 +2,11 @@
 use Rattle.std.specs.Prelude.{◌≡◌, ℕ, Some, IsTrue, slice_get}
 use Rattle.ba_core.specs.PartRows.{is_part_state}
 use Rattle.ba_core.specs.declared.identifiers.Id.{Id}
-use Rattle.ba_scope.specs.Fits.{ScopeFits, has_own_state}
-use Rattle.ba_scope.specs.Scope.{ScopeState, end_with_id}
-use Rattle.ba_scope.specs.declared.ends.End.{End}
-use Rattle.ba_scope.specs.declared.parts.Part.{Part}
+use Rattle.ba_ends.specs.Ends.{end_with_id, has_own_state}
+use Rattle.ba_scope.specs.Fits.{ScopeFits}
+use Rattle.ba_scope.specs.Scope.{ScopeState}
+use Rattle.ba_ends.specs.declared.ends.End.{End}
+use Rattle.ba_ends.specs.declared.parts.Part.{Part}
 use Rattle.ba_steps.specs.Fits.{NodeFits}
 use Rattle.ba_steps.specs.Node.{EndPlace, NodeState, end_place, lone, part_place, scope_with_id, upward}
 

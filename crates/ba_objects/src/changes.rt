@@ -3,8 +3,9 @@ ghost use Rattle.std.specs.Prelude.{◌≡◌};
 ghost use Rattle.ba_objects.specs.Changes.{SuitsPart, SuitsScope, changed_part, changed_scope};
 
 use ba_core::{Id, Leave, Notice, PState, Protocol, Verdict};
+use ba_ends::{Part, Room};
 use ba_message::Epr;
-use ba_scope::{Part, Room, Scope};
+use ba_scope::Scope;
 
 /// What is to be changed at a scope: one call of it.
 #[derive(Debug, Drop)]

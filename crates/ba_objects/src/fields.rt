@@ -6,7 +6,8 @@ ghost use Rattle.ba_steps.specs.Node.{new_node};
 
 use crate::changes::{Change, change_part, change_scope};
 use ba_core::{Memory, Octets};
-use ba_scope::{Part, Scope};
+use ba_ends::Part;
+use ba_scope::Scope;
 use std::alloc::Global;
 
 /// The fields of a node. They may not fit each other: `Objects` keeps that they do.

@@ -3,13 +3,15 @@ ghost use Rattle.std.specs.Prelude.{◌≡◌, ◌<◌, IfSome, IfNone, None, is
 ghost use Rattle.std.specs.List.{find};
 ghost use Rattle.ba_objects.specs.Objects.{node_of};
 ghost use Rattle.ba_objects.specs.Finds.{FindsEnd, FindsLone, FindsScope, FindsUp};
-ghost use Rattle.ba_scope.specs.Scope.{end_with_id, is_id_above, same_id};
+ghost use Rattle.ba_ends.specs.Ends.{end_with_id, same_id};
+ghost use Rattle.ba_scope.specs.Scope.{is_id_above};
 ghost use Rattle.ba_steps.specs.Fits.{NodeFits};
 ghost use Rattle.ba_steps.specs.Node.{end_place, nowhere, part_place, scope_with_id};
 
 use crate::fields::Fields;
 use ba_core::Id;
-use ba_scope::{End, Part, Scope};
+use ba_ends::{End, Part};
+use ba_scope::Scope;
 
 /// A scope, and its place.
 #[derive(Drop)]

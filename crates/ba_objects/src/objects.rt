@@ -3,7 +3,7 @@ ghost use Rattle.std.specs.Prelude.{◌≡◌, ◌<◌, IfNone, IfSome, None, On
 ghost use Rattle.std.specs.List.{find};
 ghost use Rattle.ba_objects.specs.Changes.{Suits, changed_node};
 ghost use Rattle.ba_objects.specs.Finds.{FindsEnd, FindsLone, FindsScope, FindsUp};
-ghost use Rattle.ba_scope.specs.Scope.{same_id};
+ghost use Rattle.ba_ends.specs.Ends.{same_id};
 ghost use Rattle.ba_steps.specs.Fits.{NodeFits};
 ghost use Rattle.ba_steps.specs.Node.{end_place, last, new_node, nowhere, part_place, scope_with_id};
 ghost use Rattle.ba_steps.specs.Shown.{deadline_of, in_scope, seen_at};

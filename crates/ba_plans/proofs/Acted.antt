@@ -10,10 +10,10 @@ use Rattle.ba_objects.specs.declared.changes.Change.TheVariants as changes
 use Rattle.ba_objects.specs.declared.changes.PartChange.TheVariants as by_part
 use Rattle.ba_objects.specs.Finds.{FindsLone, FindsUp}
 use Rattle.ba_record.specs.declared.records.Record.TheVariants as journal
-use Rattle.ba_scope.specs.Rules.{part_in_state}
+use Rattle.ba_ends.specs.Parts.{part_in_state}
 use Rattle.ba_scope.specs.Scope.{ScopeState}
 use Rattle.ba_scope.specs.declared.answers.TheConstants.{WRONG_STATE}
-use Rattle.ba_scope.specs.declared.parts.Part.{Part}
+use Rattle.ba_ends.specs.declared.parts.Part.{Part}
 use Rattle.ba_steps.specs.Fits.{NodeFits}
 use Rattle.ba_steps.specs.Node.{NodeState, PartPlace, counter, nowhere, part_place, with_lone}
 use Rattle.ba_steps.specs.Steps.{NodeStep, act_at, on_act, refusal_step, written_step}

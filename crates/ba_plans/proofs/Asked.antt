@@ -12,10 +12,12 @@ use Rattle.ba_objects.specs.declared.changes.ScopeChange.TheVariants as by_scope
 use Rattle.ba_objects.specs.Finds.{FindsEnd, FindsLone, FindsUp, end_at}
 use Rattle.ba_record.specs.declared.records.Record.TheVariants as journal
 use Rattle.ba_scope.proofs.Lists.{false_branch, some_branch}
-use Rattle.ba_scope.specs.Rules.{ScopeStep, end_asking, end_owing, flag, is_enrolled_as, part_asking, part_owing, with_end_changed, with_up}
-use Rattle.ba_scope.specs.Scope.{ScopeState, end_with_id, has_no_coordinator, same_id}
-use Rattle.ba_scope.specs.declared.ends.End.{End}
-use Rattle.ba_scope.specs.declared.parts.Part.{Part}
+use Rattle.ba_ends.specs.Ends.{end_asking, end_owing, end_with_id, same_id}
+use Rattle.ba_ends.specs.Parts.{has_no_coordinator, is_enrolled_as, part_asking, part_owing}
+use Rattle.ba_scope.specs.Rules.{ScopeStep, flag, with_end_changed, with_up}
+use Rattle.ba_scope.specs.Scope.{ScopeState}
+use Rattle.ba_ends.specs.declared.ends.End.{End}
+use Rattle.ba_ends.specs.declared.parts.Part.{Part}
 use Rattle.ba_scope.specs.declared.answers.TheConstants.{NO_SUCH_END, WRONG_STATE}
 use Rattle.ba_steps.proofs.Members.{number_is_same, same_by_number}
 use Rattle.ba_steps.proofs.Objects.{no_end_is_a_part}

@@ -16,11 +16,12 @@ use Rattle.ba_plans.specs.inside.Joining.{join_step}
 use Rattle.ba_plans.specs.inside.Registering.{refusal_code}
 use Rattle.ba_record.specs.declared.records.Record.TheVariants as journal
 use Rattle.ba_scope.specs.Rules.{enrol_refusal, new_scope, scope_with_end}
-use Rattle.ba_scope.specs.Scope.{ScopeState, end_of, has_id, is_id_above, is_own_id, same_id}
+use Rattle.ba_ends.specs.Ends.{end_of, same_id}
+use Rattle.ba_scope.specs.Scope.{ScopeState, has_id, is_id_above, is_own_id}
 use Rattle.ba_scope.specs.declared.answers.EnrolFault.{EnrolFault}
 use Rattle.ba_scope.specs.declared.answers.EnrolFault.TheVariants.{Full, NotYetEnrolled, Sealed}
-use Rattle.ba_scope.specs.declared.ends.End.{End}
-use Rattle.ba_scope.specs.declared.parts.Part.{Part}
+use Rattle.ba_ends.specs.declared.ends.End.{End}
+use Rattle.ba_ends.specs.declared.parts.Part.{Part}
 use Rattle.ba_steps.proofs.Members.{all_among, among_left, number_is_same, other_by_number}
 use Rattle.ba_steps.proofs.NodeKept.{fresh_of, next_is}
 use Rattle.ba_steps.proofs.Objects.{end_owned, ids_in_scopes, in_scopes, lone_ids, up_owned}

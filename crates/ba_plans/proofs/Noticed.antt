@@ -27,10 +27,12 @@ use Rattle.ba_objects.specs.Finds.{FindsEnd, FindsLone, FindsUp, end_at}
 use Rattle.ba_record.specs.declared.records.Record.{Record}
 use Rattle.ba_record.specs.declared.records.Record.TheVariants as journal
 use Rattle.ba_scope.proofs.Lists.{false_branch, some_branch}
-use Rattle.ba_scope.specs.Rules.{ScopeStep, end_after_notice, end_receive, state_after_row, up_receive, with_end_changed, with_up_moved}
-use Rattle.ba_scope.specs.Scope.{ScopeState, end_with_id, has_no_coordinator, is_registering}
-use Rattle.ba_scope.specs.declared.ends.End.{End}
-use Rattle.ba_scope.specs.declared.parts.Part.{Part}
+use Rattle.ba_ends.specs.Ends.{end_after_notice, end_with_id}
+use Rattle.ba_ends.specs.Parts.{has_no_coordinator, is_registering, state_after_row}
+use Rattle.ba_scope.specs.Rules.{ScopeStep, end_receive, up_receive, with_end_changed, with_up_moved}
+use Rattle.ba_scope.specs.Scope.{ScopeState}
+use Rattle.ba_ends.specs.declared.ends.End.{End}
+use Rattle.ba_ends.specs.declared.parts.Part.{Part}
 use Rattle.ba_steps.proofs.Own.{end_changed, moved_own, notice_who}
 use Rattle.ba_steps.specs.Fits.{NodeFits}
 use Rattle.ba_steps.specs.Node.{EndPlace, NodeState, PartPlace, counter, end_place, with_scope}

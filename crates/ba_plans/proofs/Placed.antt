@@ -4,8 +4,9 @@ use Rattle.std.specs.List.{AllByRecursion, IsDistinct}
 use Rattle.ba_core.specs.declared.identifiers.Id.{Id}
 use Rattle.ba_objects.specs.Changes.{with_changed}
 use Rattle.ba_scope.proofs.Lists.{some_branch}
-use Rattle.ba_scope.specs.Scope.{ScopeState, same_id}
-use Rattle.ba_scope.specs.declared.parts.Part.{Part}
+use Rattle.ba_ends.specs.Ends.{same_id}
+use Rattle.ba_scope.specs.Scope.{ScopeState}
+use Rattle.ba_ends.specs.declared.parts.Part.{Part}
 use Rattle.ba_steps.proofs.Members.{all_among, all_right, among_map, apart_left, apart_right, is_other, number_is_same, same_by_number}
 use Rattle.ba_steps.proofs.Objects.{ids_in_scopes, lone_ids}
 use Rattle.ba_steps.specs.Fits.{NodeFits}

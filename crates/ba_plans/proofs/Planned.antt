@@ -22,8 +22,8 @@ use Rattle.ba_scope.specs.Scope.{ScopeState}
 use Rattle.ba_scope.specs.declared.answers.Said.{Said}
 use Rattle.ba_scope.specs.declared.answers.Said.TheVariants as said
 use Rattle.ba_scope.specs.declared.answers.TheConstants.{NO_SUCH_END, NOT_A_CHILD}
-use Rattle.ba_scope.specs.declared.ends.End.{End}
-use Rattle.ba_scope.specs.declared.parts.Part.{Part}
+use Rattle.ba_ends.specs.declared.ends.End.{End}
+use Rattle.ba_ends.specs.declared.parts.Part.{Part}
 use Rattle.ba_steps.proofs.NodeKept.{id_kept}
 use Rattle.ba_steps.proofs.Own.{SameOwn, choose_own, complete_own, decide_own}
 use Rattle.ba_steps.specs.Fits.{NodeFits}

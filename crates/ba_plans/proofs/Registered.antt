@@ -16,9 +16,10 @@ use Rattle.ba_objects.specs.declared.changes.ScopeChange.TheVariants as by_scope
 use Rattle.ba_objects.specs.Finds.{FindsLone, FindsUp}
 use Rattle.ba_record.specs.declared.records.Record.TheVariants as journal
 use Rattle.ba_scope.proofs.Lists.{false_branch}
-use Rattle.ba_scope.specs.Rules.{enrolled_part, enrolled_scope, refused_part, refused_scope, with_up}
-use Rattle.ba_scope.specs.Scope.{ScopeState, is_registering}
-use Rattle.ba_scope.specs.declared.parts.Part.{Part}
+use Rattle.ba_ends.specs.Parts.{enrolled_part, is_registering, refused_part}
+use Rattle.ba_scope.specs.Rules.{enrolled_scope, refused_scope, with_up}
+use Rattle.ba_scope.specs.Scope.{ScopeState}
+use Rattle.ba_ends.specs.declared.parts.Part.{Part}
 use Rattle.ba_steps.proofs.Own.{up_changed}
 use Rattle.ba_steps.specs.Fits.{NodeFits}
 use Rattle.ba_steps.specs.Node.{NodeState, PartPlace, counter, lone, nowhere, part_place, upward, with_part_changed}

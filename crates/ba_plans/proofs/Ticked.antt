@@ -18,10 +18,12 @@ use Rattle.ba_plans.proofs.Planned.{found_step, none_step, scope_in_place}
 use Rattle.ba_plans.specs.inside.Ticking.{end_changes, part_talks, wake_at_end}
 use Rattle.ba_scope.proofs.Calls.{ticked_part}
 use Rattle.ba_scope.proofs.Lists.{false_branch, some_branch}
-use Rattle.ba_scope.specs.Rules.{Tick, expire, state_at_tick, tick_end, tick_of_end, tick_of_part, tick_up, with_end_changed}
-use Rattle.ba_scope.specs.Scope.{ScopeState, end_with_id}
-use Rattle.ba_scope.specs.declared.ends.End.{End}
-use Rattle.ba_scope.specs.declared.parts.Part.{Part}
+use Rattle.ba_ends.specs.Ends.{Tick, end_with_id, tick_of_end}
+use Rattle.ba_ends.specs.Parts.{tick_of_part}
+use Rattle.ba_scope.specs.Rules.{expire, state_at_tick, tick_end, tick_up, with_end_changed}
+use Rattle.ba_scope.specs.Scope.{ScopeState}
+use Rattle.ba_ends.specs.declared.ends.End.{End}
+use Rattle.ba_ends.specs.declared.parts.Part.{Part}
 use Rattle.ba_steps.proofs.Objects.{end_here, lone_here, up_here}
 use Rattle.ba_steps.proofs.Own.{end_changed, expire_own, tick_up_own, tick_who}
 use Rattle.ba_steps.proofs.Places.{end_found}

@@ -3,16 +3,17 @@ ghost use Rattle.std.specs.Prelude.{◌≡◌, IsTrue};
 ghost use Rattle.ba_core.specs.EndRows.{chosen_state};
 ghost use Rattle.ba_objects.specs.Changes.{Suits};
 ghost use Rattle.ba_plans.specs.Plans.{planned_step};
-ghost use Rattle.ba_scope.specs.Fits.{has_own_state};
+ghost use Rattle.ba_ends.specs.Ends.{has_own_state};
 ghost use Rattle.ba_scope.specs.Rules.{leave_act};
 ghost use Rattle.ba_steps.specs.Fits.{NodeFits};
 ghost use Rattle.ba_steps.specs.Steps.{choice_number, on_choose, on_complete, on_decide, on_finish, on_leave, wake_of_choice};
 
 use crate::plans::Plan;
 use ba_core::{Act, Id, Leave, Verdict};
+use ba_ends::End;
 use ba_objects::{Change, Objects, ScopeChange};
 use ba_record::Record;
-use ba_scope::{End, NO_SUCH_END, NOT_A_CHILD, Said};
+use ba_scope::{NO_SUCH_END, NOT_A_CHILD, Said};
 use ba_steps::{NO_SUCH_SCOPE, Wake};
 
 // That an end's participant was asked to complete, among the choices in a record.

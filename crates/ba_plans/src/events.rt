@@ -5,7 +5,7 @@ ghost use Rattle.ba_plans.specs.inside.Enacting.{told_event};
 ghost use Rattle.ba_steps.specs.Lawful.{act_event, chosen_event, create_event, current_context, event_of, notice_event, refused_event};
 ghost use Rattle.ba_steps.specs.Node.{id_at, part_place, upward};
 ghost use Rattle.ba_scope.specs.Scope.{ScopeState};
-ghost use Rattle.ba_scope.specs.declared.parts.Part.{Part};
+ghost use Rattle.ba_ends.specs.declared.parts.Part.{Part};
 
 use ba_core::{Act, Code, Id, Kind, Leave, List, Notice, Protocol, Side, Verdict};
 use ba_message::{Context, Epr};

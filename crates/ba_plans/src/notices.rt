@@ -8,8 +8,8 @@ ghost use Rattle.ba_objects.specs.Changes.{Suits};
 ghost use Rattle.ba_plans.specs.Plans.{planned_step};
 ghost use Rattle.ba_objects.specs.Objects.{NodeInMemory};
 ghost use Rattle.ba_objects.specs.Finds.{FindsEnd, FindsLone, FindsUp};
-ghost use Rattle.ba_scope.specs.Fits.{has_own_state};
-ghost use Rattle.ba_scope.specs.Scope.{has_no_coordinator};
+ghost use Rattle.ba_ends.specs.Ends.{has_own_state};
+ghost use Rattle.ba_ends.specs.Parts.{has_no_coordinator};
 ghost use Rattle.ba_steps.specs.Fits.{NodeFits};
 ghost use Rattle.ba_steps.specs.Node.{NodeState, lone, upward};
 ghost use Rattle.ba_steps.specs.Steps.{on_end_asked, on_end_notice, on_end_row, on_lone_row, on_notice, on_part_asked, on_part_heard, on_place_notice, on_up_row, wake_of_end, wake_of_up};
@@ -17,13 +17,13 @@ ghost use Rattle.ba_steps.specs.Node.{part_place};
 
 use crate::plans::Plan;
 use crate::states::{
-    brings_verdict, is_ended, is_get_status, is_status, lacks_coordinator, same_end, same_part,
-    settled,
+    brings_verdict, is_get_status, is_status, lacks_coordinator, same_end, same_part, settled,
 };
 use ba_core::{CRow, CState, Code, Id, Notice, PRow, PState, Side};
+use ba_ends::{Part, is_ended};
 use ba_objects::{Change, FoundEnd, FoundLone, FoundUp, Objects, PartChange, ScopeChange};
 use ba_record::Record;
-use ba_scope::{Part, Scope};
+use ba_scope::Scope;
 use ba_steps::Wake;
 
 /// A notice arrives at an end or at a participant.

@@ -7,7 +7,7 @@ ghost use Rattle.ba_objects.specs.Finds.{FindsScope};
 ghost use Rattle.ba_plans.specs.Plans.{planned_step};
 ghost use Rattle.ba_plans.specs.inside.Registering.{refusal_code, register_dialed};
 ghost use Rattle.ba_scope.specs.Rules.{enrol_refusal};
-ghost use Rattle.ba_scope.specs.Scope.{end_of};
+ghost use Rattle.ba_ends.specs.Ends.{end_of};
 ghost use Rattle.ba_steps.specs.Fits.{HasSpareCounters};
 ghost use Rattle.ba_steps.specs.Steps.{enrol_unless, enrolled_before, on_register, register_at, same_protocol};
 
@@ -16,10 +16,11 @@ use crate::plans::Plan;
 use crate::states::can_dial;
 use ba_addresses::coordinator_of;
 use ba_core::{Code, Id, Memory, Protocol};
+use ba_ends::End;
 use ba_message::Epr;
 use ba_objects::{Change, FoundScope, Objects, ScopeChange};
 use ba_record::Record;
-use ba_scope::{End, EnrolFault, Scope};
+use ba_scope::{EnrolFault, Scope};
 use ba_steps::{Reply, Wake};
 
 /// A participant registers at this scope (WS-Coordination 1.2, section 3.2). No protocol where the message names one that

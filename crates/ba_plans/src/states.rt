@@ -3,8 +3,7 @@ ghost use Rattle.std.specs.Prelude.{◌≡◌, IsTrue, is_some};
 ghost use Rattle.ba_core.specs.EndRows.{is_end_state};
 ghost use Rattle.ba_link.specs.Link.{settled_state};
 ghost use Rattle.ba_message.specs.Dialing.{is_dialable};
-ghost use Rattle.ba_scope.specs.Rules.{verdict_on_the_way};
-ghost use Rattle.ba_scope.specs.Scope.{has_no_coordinator, is_ended_state};
+ghost use Rattle.ba_ends.specs.Parts.{has_no_coordinator, verdict_on_the_way};
 ghost use Rattle.ba_steps.specs.Steps.{is_get_status, is_registering_state, is_status, same_end_state, same_part_state};
 
 use ba_core::{CState, How, Notice, PState, Protocol, Verdict};
@@ -21,13 +20,6 @@ pub(crate) fn same_part(before: PState, next: PState) -> bool
     ensures { result ≡ same_part_state before next }
 {
     before == next
-}
-
-/// Whether the state is Ended.
-pub(crate) fn is_ended(state: CState) -> bool
-    ensures { result ≡ is_ended_state state }
-{
-    matches!(state, CState::Ended(_))
 }
 
 /// Whether a participant in this state is Registering.

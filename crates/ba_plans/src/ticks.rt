@@ -16,11 +16,11 @@ use crate::plans::TickPlan;
 use crate::states::{is_registering, same_end, same_part};
 use ba_addresses::{CODE_OF_REGISTER, number_of_message, participant_of};
 use ba_core::{CState, Id, Memory, Notice, code_of};
+use ba_ends::{End, Part};
 use ba_message::{Epr, Letter, Message};
 use ba_objects::{
     Change, FoundEnd, FoundLone, FoundScope, FoundUp, Objects, PartChange, ScopeChange,
 };
-use ba_scope::{End, Part};
 use ba_steps::Wake;
 use std::alloc::Global;
 

@@ -2,7 +2,7 @@
 use Rattle.ba_core.specs.declared.protocols.Protocol.{Protocol}
 use Rattle.ba_message.specs.declared.endpoints.Epr.{Epr}
 use Rattle.ba_record.specs.declared.records.Record.TheVariants as journal
-use Rattle.ba_scope.specs.declared.parts.Part.{Part}
+use Rattle.ba_ends.specs.declared.parts.Part.{Part}
 use Rattle.ba_steps.specs.Node.{NodeState, counter, next_id, with_new_part}
 use Rattle.ba_steps.specs.Steps.{NodeStep, new_part, written_step}
 use Rattle.ba_steps.specs.declared.answers.Reply.TheVariants as reply

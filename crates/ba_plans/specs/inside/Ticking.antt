@@ -2,8 +2,8 @@
 use Rattle.std.specs.Prelude.{Bool, not, ◌||◌, if◌then◌else◌}
 use Rattle.ba_core.specs.declared.states.CState.{CState}
 use Rattle.ba_scope.specs.Scope.{ScopeState}
-use Rattle.ba_scope.specs.declared.ends.End.{End}
-use Rattle.ba_scope.specs.declared.parts.Part.{Part}
+use Rattle.ba_ends.specs.declared.ends.End.{End}
+use Rattle.ba_ends.specs.declared.parts.Part.{Part}
 use Rattle.ba_steps.specs.Steps.{same_end_state, wake_of_end}
 use Rattle.ba_steps.specs.declared.answers.Wake.{Wake}
 use Rattle.ba_steps.specs.declared.answers.Wake.TheVariants as wake

@@ -2,9 +2,9 @@ use Rattle.std.proofs.Common.{◌≡◌, ◌<◌, None, Some, length, position, 
 use Rattle.std.proofs.lemmas.Option.{slice_get_read}
 use Rattle.ba_objects.specs.Objects.{node_of}
 use Rattle.ba_objects.proofs.Found.{lone_at}
-use Rattle.ba_scope.proofs.Places.{none_found}
-use Rattle.ba_scope.specs.Scope.{same_id}
-use Rattle.ba_scope.specs.declared.parts.Part.{Part}
+use Rattle.ba_ends.proofs.Places.{none_found}
+use Rattle.ba_ends.specs.Ends.{same_id}
+use Rattle.ba_ends.specs.declared.parts.Part.{Part}
 use Rattle.ba_steps.specs.Node.{NodeState}
 use Rattle.ba_objects.proofs.finds.find_lone.Goals as goal
 

@@ -2,7 +2,8 @@ use Rattle.std.proofs.Common.{◌≡◌, ◌<◌, Some, length, position, refl, 
 use Rattle.std.proofs.lemmas.Option.{slice_get_read}
 use Rattle.ba_objects.specs.Objects.{node_of}
 use Rattle.ba_objects.proofs.Found.{no_scope, scope_at}
-use Rattle.ba_scope.specs.Scope.{ScopeState, same_id}
+use Rattle.ba_ends.specs.Ends.{same_id}
+use Rattle.ba_scope.specs.Scope.{ScopeState}
 use Rattle.ba_steps.specs.Node.{NodeState}
 use Rattle.ba_objects.proofs.finds.find_scope.Goals as goal
 

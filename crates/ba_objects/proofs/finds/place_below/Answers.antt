@@ -1,5 +1,5 @@
 use Rattle.ba_objects.proofs.Found.{above_with}
-use Rattle.ba_scope.proofs.Places.{within_if_some}
+use Rattle.ba_ends.proofs.Places.{within_if_some}
 use Rattle.ba_objects.proofs.finds.place_below.Goals as goal
 
 pub returns : goal.returns

@@ -1,6 +1,6 @@
-use Rattle.ba_scope.specs.Scope.{same_id}
-use Rattle.ba_scope.specs.declared.parts.Part.{Part}
-use Rattle.ba_scope.proofs.Places.{within_if_some}
+use Rattle.ba_ends.specs.Ends.{same_id}
+use Rattle.ba_ends.specs.declared.parts.Part.{Part}
+use Rattle.ba_ends.proofs.Places.{within_if_some}
 use Rattle.ba_objects.proofs.finds.place_of_lone.Goals as goal
 
 pub returns : goal.returns

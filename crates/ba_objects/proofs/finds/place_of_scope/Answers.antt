@@ -1,5 +1,6 @@
-use Rattle.ba_scope.specs.Scope.{ScopeState, same_id}
-use Rattle.ba_scope.proofs.Places.{within_if_some}
+use Rattle.ba_ends.specs.Ends.{same_id}
+use Rattle.ba_scope.specs.Scope.{ScopeState}
+use Rattle.ba_ends.proofs.Places.{within_if_some}
 use Rattle.ba_objects.proofs.finds.place_of_scope.Goals as goal
 
 pub returns : goal.returns

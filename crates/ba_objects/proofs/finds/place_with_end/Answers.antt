@@ -1,5 +1,5 @@
 use Rattle.ba_objects.proofs.Found.{has_end}
-use Rattle.ba_scope.proofs.Places.{within_if_some}
+use Rattle.ba_ends.proofs.Places.{within_if_some}
 use Rattle.ba_objects.proofs.finds.place_with_end.Goals as goal
 
 pub returns : goal.returns

@@ -1,7 +1,7 @@
 use Rattle.std.proofs.Common.{◌≡◌, ◌∙◌, false, true, sym}
 use Rattle.ba_plans.proofs.Asked.{lone_asks, part_asks_already, part_asks_nobody}
 use Rattle.ba_plans.proofs.Planned.{nothing_suits, lone_suits}
-use Rattle.ba_scope.specs.Scope.{has_no_coordinator}
+use Rattle.ba_ends.specs.Parts.{has_no_coordinator}
 use Rattle.ba_steps.specs.Node.{lone}
 use Rattle.ba_plans.proofs.asks.ask_lone.Goals as goal
 

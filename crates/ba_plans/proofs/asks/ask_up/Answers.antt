@@ -1,7 +1,7 @@
 use Rattle.std.proofs.Common.{◌≡◌, ◌∙◌, false, true, sym}
 use Rattle.ba_plans.proofs.Asked.{up_asks, part_asks_already, part_asks_nobody}
 use Rattle.ba_plans.proofs.Planned.{nothing_suits, scope_suits}
-use Rattle.ba_scope.specs.Scope.{has_no_coordinator}
+use Rattle.ba_ends.specs.Parts.{has_no_coordinator}
 use Rattle.ba_steps.specs.Node.{upward}
 use Rattle.ba_plans.proofs.asks.ask_up.Goals as goal
 

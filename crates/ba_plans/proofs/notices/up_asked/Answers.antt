@@ -1,7 +1,7 @@
 use Rattle.std.proofs.Common.{◌≡◌, ◌∙◌, false}
 use Rattle.ba_plans.proofs.Asked.{part_owes_already, up_owes, not_true_is_false}
 use Rattle.ba_plans.proofs.Planned.{nothing_suits, scope_suits}
-use Rattle.ba_scope.specs.Scope.{has_no_coordinator}
+use Rattle.ba_ends.specs.Parts.{has_no_coordinator}
 use Rattle.ba_steps.specs.Node.{upward}
 use Rattle.ba_plans.proofs.notices.up_asked.Goals as goal
 
