@@ -1,0 +1,5 @@
+pub mod Answers
+pub mod Keeping
+pub mod Loading
+pub mod Nodes
+pub mod inside

@@ -1,0 +1,4 @@
+pub mod Beginnings
+pub mod Commits
+pub mod Kept
+pub mod Stored

@@ -1,0 +1,69 @@
+//! Takes a step that was planned, and says what it led to.
+ghost use Rattle.std.specs.Prelude.{◌≡◌, None, IfOk};
+ghost use Rattle.ba_node.specs.Answers.{IsLetterAtTick, IsReplyOf};
+ghost use Rattle.ba_node.specs.Nodes.{NodeHolds, on_journal};
+ghost use Rattle.ba_plans.specs.Plans.{planned_step, planned_tick};
+ghost use Rattle.ba_node.specs.inside.Commits.{Commits, IsDue, due_by_step, due_by_tick};
+ghost use Rattle.ba_objects.specs.Changes.{Suits};
+
+use crate::committing::commit;
+use crate::faults::NodeFault;
+use ba_journal::Journal;
+use ba_objects::Objects;
+use ba_plans::{Plan, TickPlan};
+use ba_ports::Disk;
+use ba_steps::{Done, Ticked};
+
+/// The step of an input.
+pub fn take_step<D: Disk>(
+    journal: &mut Journal<D>,
+    objects: &mut Objects,
+    plan: Plan,
+) -> Result<Done, NodeFault>
+    requires opened { journal.old.closed ≡ None }
+    requires holds { NodeHolds D.follows D.seen (on_journal journal.old objects.old.node) }
+    requires due { IsDue objects.old.node (due_by_step (planned_step objects.old.node plan)) }
+    requires suits { Suits objects.old plan.change }
+    ensures reply { IfOk result (IsReplyOf (planned_step objects.old.node plan)) }
+    ensures commits { Commits D.follows D.seen D.may_leave D.later D.left_between D.driven D.faults
+        (due_by_step (planned_step objects.old.node plan)) (on_journal journal.old objects.old.node) (on_journal journal.new objects.new.node) result }
+    ensures holds { NodeHolds D.follows D.seen (on_journal journal.new objects.new.node) }
+{
+    let Plan {
+        reply,
+        wake,
+        written,
+        change: doing,
+    } = plan;
+    match commit(journal, objects, &written, doing) {
+        Ok(()) => Ok(Done { reply, wake }),
+        Err(fault) => Err(fault),
+    }
+}
+
+/// The step of a tick. A letter comes only where the record is kept.
+pub fn take_tick<D: Disk>(
+    journal: &mut Journal<D>,
+    objects: &mut Objects,
+    plan: TickPlan,
+) -> Result<Ticked, NodeFault>
+    requires opened { journal.old.closed ≡ None }
+    requires holds { NodeHolds D.follows D.seen (on_journal journal.old objects.old.node) }
+    requires due { IsDue objects.old.node (due_by_tick (planned_tick objects.old.node plan)) }
+    requires suits { Suits objects.old plan.change }
+    ensures letter { IfOk result (IsLetterAtTick (planned_tick objects.old.node plan)) }
+    ensures commits { Commits D.follows D.seen D.may_leave D.later D.left_between D.driven D.faults
+        (due_by_tick (planned_tick objects.old.node plan)) (on_journal journal.old objects.old.node) (on_journal journal.new objects.new.node) result }
+    ensures holds { NodeHolds D.follows D.seen (on_journal journal.new objects.new.node) }
+{
+    let TickPlan {
+        letter,
+        wake,
+        written,
+        change: doing,
+    } = plan;
+    match commit(journal, objects, &written, doing) {
+        Ok(()) => Ok(Ticked { letter, wake }),
+        Err(unsaid) => Err(unsaid),
+    }
+}
