@@ -1,5 +1,5 @@
 -- A body in chunks, block by block; for the clauses `body` of chunks_by and read_chunked.
-use Rattle.std.proofs.Common.{◌≡◌, ℕ, ◌+◌, ◌-◌, ◌^◌, ◌<◌, ◌≤◌, List, [], ◌∷◌, ◌++◌, length, take, drop, refl, sym, ap, ◌∙◌, subst, inl, inr, arith, append-nil, append_assoc, length-append, take-append-drop, Option, None, Some, Result, Ok, Err}
+use Rattle.std.proofs.Common.{◌≡◌, ℕ, ◌+◌, ◌-◌, ◌^◌, ◌<◌, ◌≤◌, List, [], ◌++◌, length, take, drop, refl, sym, ap, ◌∙◌, subst, inl, inr, arith, append-nil, append_assoc, length-append, take-append-drop, Option, None, Some, Result, Ok, Err}
 use Rattle.std.proofs.lemmas.List.{drop-take, length-take}
 use Rattle.std.specs.Io.KnownBytes.{Consumes, IsAtEnd, Keeps}
 use Rattle.std.proofs.KnownBytes.{Consumes-nil, Consumes-trans}
@@ -10,7 +10,7 @@ use Rattle.ba_http_head.specs.declared.faults.HttpFault.TheVariants.{Memory, Bad
 use Rattle.ba_http_chunks.specs.declared.chunks.Chunks.{Chunks}
 use Rattle.ba_http_chunks.specs.Transfers.{IsUnended}
 use Rattle.ba_http_chunks.specs.Chunked.{ChunkedSo, Unchunks}
-use Rattle.ba_http_chunks.specs.inside.Progress.{Stands, IsBeforeTrailer, Gives, Feeds}
+use Rattle.ba_http_chunks.specs.inside.Progress.{Stands, Gives, Feeds}
 use Rattle.ba_http_chunks.specs.inside.Trailers.{ReadsTrailer}
 use Rattle.ba_http_chunks.proofs.Composing.{gives_on, gives_none, with_trailer, after_block, fault_shown, ends_there}
 use Rattle.ba_http_chunks.proofs.Standing.{unended, bounded_line}

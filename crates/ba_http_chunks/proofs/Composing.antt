@@ -1,6 +1,5 @@
 -- A body in chunks, piece by piece, and then its trailer; for the clauses `body`.
-use Rattle.std.proofs.Common.{◌≡◌, ℕ, ◌+◌, ◌-◌, ◌^◌, ◌<◌, ◌≤◌, ◌⊎◌, inl, inr, min, List, [], ◌∷◌, ◌++◌, length, take, drop, refl, sym, ap, ◌∙◌, subst, arith, append-nil, append_assoc, length-append, take-append-drop, take-add, Option, None, Some, Result, Ok, Err}
-use Rattle.std.proofs.lemmas.List.{length-take-le}
+use Rattle.std.proofs.Common.{◌≡◌, ℕ, ◌+◌, ◌^◌, ◌≤◌, inl, inr, List, [], ◌++◌, length, take, refl, sym, ap, ◌∙◌, subst, arith, append-nil, append_assoc, length-append, Option, Result, Ok, Err}
 use Rattle.std.proofs.Math.Seq.{take-append-add}
 use Rattle.std.specs.Io.KnownBytes.{Consumes, IsAtEnd}
 use Rattle.std.proofs.KnownBytes.{Consumes-trans, Consumes-nil}
@@ -8,13 +7,10 @@ use Rattle.ba_http_head.specs.declared.blocks.TheConstants.{BLOCK}
 use Rattle.ba_http_head.specs.declared.faults.HttpFault.{HttpFault}
 use Rattle.ba_http_head.specs.declared.faults.HttpFault.TheVariants.{Memory, BadHead, Length, TooLarge, BadChunk, Truncated, Read}
 use Rattle.ba_http_head.specs.declared.headings.Heading.TheVariants.{Trailer}
-use Rattle.ba_http_head.specs.declared.scans.Shown.TheVariants.{Whole, Bad, Large}
-use Rattle.ba_http_head.specs.declared.scans.TheConstants.{MOST_HEAD}
 use Rattle.ba_http_head.specs.HeadLines.{IsOpen}
-use Rattle.ba_http_head.specs.Looks.{Shows}
 use Rattle.ba_http_body.specs.SizeLines.{print_size_line}
 use Rattle.ba_http_chunks.specs.declared.chunks.Chunks.{Chunks}
-use Rattle.ba_http_chunks.specs.Transfers.{print_chunks, IsTransfer, IsUnended, in_trailer, Breaks, Passes}
+use Rattle.ba_http_chunks.specs.Transfers.{print_chunks, IsUnended, in_trailer, Breaks, Passes}
 use Rattle.ba_http_chunks.specs.Chunked.{StopsUnended, ChunkedSo, Unchunks}
 use Rattle.ba_http_chunks.specs.inside.Progress.{Stands, IsBeforeTrailer, Gives, Feeds}
 use Rattle.ba_http_chunks.specs.inside.Trailers.{StopsOpen, TrailerSo, ReadsTrailer}

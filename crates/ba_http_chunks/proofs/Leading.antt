@@ -4,8 +4,8 @@ use Rattle.std.specs.Char.{is_ascii_hexdigit, digit_value}
 use Rattle.std.specs.Str.Parse.{digits_value}
 use Rattle.std.proofs.lemmas.Int.Digits.{digits_value_push}
 use Rattle.std.proofs.lemmas.List.Elements.{All-head, All-tail, All-nil}
-use Rattle.httparse.specs.Grammar.{AllPass, is_ows, IsExtension, print_extension}
-use Rattle.ba_http_body.specs.declared.size_lines.Place.TheVariants.{First, Digits, Blank, Extension, Return}
+use Rattle.httparse.specs.Grammar.{AllPass, is_ows, print_extension}
+use Rattle.ba_http_body.specs.declared.size_lines.Place.TheVariants.{First, Blank, Extension, Return}
 use Rattle.ba_http_body.specs.SizeLines.{SizeLine, IsSizeLine, print_size_line}
 use Rattle.ba_http_body.specs.inside.Places.{HasRead}
 use Rattle.ba_http_body.proofs.Walks.{space_no_digit}

@@ -1,5 +1,5 @@
 -- Where the bytes of a transfer lead, up to its trailer; for the laws.
-use Rattle.std.proofs.Common.{◌≡◌, ℕ, zero, suc, ◌+◌, ◌-◌, ◌<◌, ◌≤◌, ◌⊎◌, inl, inr, Bool, true, false, cond, nat_eq, nat_lt, nat_le, List, [], ◌∷◌, ◌++◌, length, refl, sym, ap, ◌∙◌, subst, arith, append-nil, append_assoc, length-append, All}
+use Rattle.std.proofs.Common.{◌≡◌, ℕ, zero, suc, ◌+◌, ◌<◌, ◌≤◌, true, false, cond, nat_eq, nat_lt, nat_le, List, [], ◌∷◌, ◌++◌, length, refl, sym, ap, ◌∙◌, subst, arith, append-nil, append_assoc, length-append, All}
 use Rattle.std.specs.Str.Parse.{digits_value}
 use Rattle.std.proofs.lemmas.Bool.{lt-leb, le-leb, lt-ltb, le-ltb, ne_eqb}
 use Rattle.std.proofs.lemmas.List.Elements.{All-head, All-tail}
@@ -9,7 +9,7 @@ use Rattle.ba_http_body.specs.declared.size_lines.Step.{Step}
 use Rattle.ba_http_body.specs.declared.size_lines.Step.TheVariants.{More, End, Bad}
 use Rattle.ba_http_body.specs.declared.size_lines.Place.{Place}
 use Rattle.ba_http_body.specs.declared.size_lines.Place.TheVariants.{First}
-use Rattle.ba_http_body.specs.SizeLines.{SizeLine, IsSizeLine, print_size_line, MayBecomeSizeLine}
+use Rattle.ba_http_body.specs.SizeLines.{SizeLine, print_size_line, MayBecomeSizeLine}
 use Rattle.ba_http_body.specs.inside.Places.{HasRead, Steps}
 use Rattle.ba_http_body.proofs.Walks.{walk, walks}
 use Rattle.ba_http_chunks.specs.declared.chunks.TheConstants.{MOST_SIZE_LINE}

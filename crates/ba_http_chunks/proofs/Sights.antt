@@ -1,10 +1,8 @@
 -- What shows itself of a body in chunks is one thing, at one byte; for the laws.
-use Rattle.std.proofs.Common.{◌≡◌, ℕ, ◌+◌, ◌-◌, ◌<◌, ◌≤◌, ◌⊎◌, inl, inr, Bool, true, false, nat_eq, List, [], ◌∷◌, ◌++◌, length, take, drop, refl, sym, ap, ◌∙◌, subst, arith, append-nil, append_assoc, length-append, length-drop, take-append-drop, take_all}
+use Rattle.std.proofs.Common.{◌≡◌, ℕ, ◌+◌, ◌-◌, ◌≤◌, inl, inr, List, [], ◌∷◌, ◌++◌, length, take, drop, refl, sym, ap, ◌∙◌, subst, arith, append-nil, append_assoc, length-append, length-drop, take-append-drop}
 use Rattle.std.proofs.lemmas.Bool.{ne_eqb}
-use Rattle.std.proofs.lemmas.List.{length-take-le}
 use Rattle.std.proofs.Math.Seq.{take-append_seam}
 use Rattle.ba_http_head.specs.declared.headings.Heading.TheVariants.{Trailer}
-use Rattle.ba_http_head.specs.declared.lengths.TheConstants.{MOST_BODY}
 use Rattle.ba_http_head.specs.declared.scans.Shown.{Shown}
 use Rattle.ba_http_head.specs.declared.scans.Shown.TheVariants.{Whole, Bad, Large}
 use Rattle.ba_http_head.specs.HeadLines.{IsOpen, Settles}
@@ -12,8 +10,8 @@ use Rattle.ba_http_head.specs.Looks.{Shows}
 use Rattle.ba_http_head.proofs.Once.{first_of, shows_once}
 use Rattle.ba_http_body.specs.declared.size_lines.Place.TheVariants.{First}
 use Rattle.ba_http_body.specs.SizeLines.{SizeLine, print_size_line}
-use Rattle.ba_http_chunks.specs.Transfers.{size_of, IsShortLine, Chunk, print_chunks, bytes_of, AreChunks, IsLastLine, BeginsChunk, Position, in_line, in_bytes, in_end, in_trailer, bytes_at, GoesOn, IsUnended, IsWrongByte, Breaks, Passes, IsTransfer, Sight, whole, broken, large, ShowsBody}
-use Rattle.ba_http_chunks.proofs.Passes.{At, in_size, in_data, before_feed, Led, on, to_limit, to_wrong, to_trailer, pass, line_begun, line_passed, line_too_long, line_wrong, data_passed, data_begun, data_too_long, none_left, chunks_passed, wrong_return, return_passed, wrong_feed, none_more}
+use Rattle.ba_http_chunks.specs.Transfers.{size_of, Chunk, print_chunks, bytes_of, AreChunks, IsLastLine, BeginsChunk, Position, in_line, in_bytes, in_end, in_trailer, bytes_at, GoesOn, IsUnended, IsWrongByte, Sight, whole, broken, large, ShowsBody}
+use Rattle.ba_http_chunks.proofs.Passes.{in_size, in_data, before_feed, Led, on, to_limit, to_wrong, to_trailer, pass, line_begun, line_passed, line_too_long, line_wrong, data_passed, data_begun, data_too_long, none_left, chunks_passed, wrong_return, return_passed, wrong_feed, none_more}
 
 -- what is seen where the trailer shows this
 abbrev sight_of : List ℕ → ℕ → Shown → Sight

@@ -1,7 +1,6 @@
 -- One byte more of a transfer, or some of a chunk; for the clauses of the functions that take them.
-use Rattle.std.proofs.Common.{◌≡◌, ℕ, ◌+◌, ◌-◌, ◌*◌, ◌^◌, ◌<◌, ◌≤◌, ◌⊎◌, inl, inr, min, List, [], ◌∷◌, ◌++◌, length, take, refl, sym, ap, ◌∙◌, subst, arith, append-nil, append_assoc, length-append, Result, Ok, Err, All}
+use Rattle.std.proofs.Common.{◌≡◌, ℕ, ◌+◌, ◌-◌, ◌*◌, ◌^◌, ◌<◌, ◌≤◌, inl, inr, min, List, [], ◌∷◌, ◌++◌, length, refl, sym, ap, ◌∙◌, subst, arith, append-nil, append_assoc, length-append, Result, Ok, Err, All}
 use Rattle.std.proofs.lemmas.List.Elements.{All-head, All-tail, All-push, All-nil}
-use Rattle.std.proofs.lemmas.List.{length-take-le}
 use Rattle.ba_http_head.specs.declared.faults.HttpFault.{HttpFault}
 use Rattle.ba_http_head.specs.declared.faults.HttpFault.TheVariants.{Memory, BadHead, Length, TooLarge, BadChunk, Truncated, Read}
 use Rattle.ba_http_head.specs.declared.lengths.TheConstants.{MOST_BODY}
@@ -16,8 +15,8 @@ use Rattle.ba_http_chunks.specs.declared.chunks.Spot.{Spot}
 use Rattle.ba_http_chunks.specs.declared.chunks.Spot.TheVariants.{Line, Bytes, Feed}
 use Rattle.ba_http_chunks.specs.declared.chunks.Turned.{Turned}
 use Rattle.ba_http_chunks.specs.declared.chunks.Turned.TheVariants.{On, Last}
-use Rattle.ba_http_chunks.specs.Transfers.{size_of, IsShortLine, Chunk, IsChunk, print_chunk, print_chunks, bytes_of, AreChunks, IsLastLine, BeginsChunk, Position, in_line, in_bytes, in_end, in_trailer, bytes_at, GoesOn, IsUnended, Breaks, Passes}
-use Rattle.ba_http_chunks.specs.inside.Progress.{SaysSoFar, body_at, got_at, IsAt, Stands, IsBeforeTrailer, Turns, Sized, next_of}
+use Rattle.ba_http_chunks.specs.Transfers.{size_of, IsShortLine, Chunk, IsChunk, print_chunk, print_chunks, bytes_of, Position, in_line, in_bytes, in_end, in_trailer, bytes_at, GoesOn, IsUnended, Breaks, Passes}
+use Rattle.ba_http_chunks.specs.inside.Progress.{SaysSoFar, body_at, got_at, IsAt, Stands, IsBeforeTrailer, Turns, Sized}
 use Rattle.ba_http_chunks.proofs.Leading.{says_size}
 use Rattle.ba_http_chunks.proofs.LinesGoOn.{begins}
 

@@ -1,4 +1,4 @@
-use Rattle.std.proofs.Common.{◌≤◌, length, drop, length-drop, Ok, Err, arith, refl, subst}
+use Rattle.std.proofs.Common.{drop, length-drop, Ok, Err, arith, refl, subst}
 use Rattle.ba_http_chunks.specs.inside.Progress.{TurnsBy}
 use Rattle.ba_http_chunks.proofs.Feeding.{feed_none, feed_on, feed_last, feed_fault, feed_all, rest_is}
 use Rattle.ba_http_chunks.proofs.chunks.feed.Goals as goal

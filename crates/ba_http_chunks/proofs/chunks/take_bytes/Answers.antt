@@ -1,5 +1,4 @@
 use Rattle.std.proofs.Common.{◌-◌, ap}
-use Rattle.ba_http_chunks.specs.declared.chunks.Chunks.{Chunks}
 use Rattle.ba_http_chunks.specs.declared.chunks.Spot.TheVariants.{Bytes}
 use Rattle.ba_http_chunks.proofs.Feeding.{bytes_turned}
 use Rattle.ba_http_chunks.proofs.chunks.take_bytes.Goals as goal

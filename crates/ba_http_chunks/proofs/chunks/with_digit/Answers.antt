@@ -1,5 +1,4 @@
-use Rattle.std.proofs.Common.{sym, ap, ◌∙◌}
-use Rattle.std.specs.Prelude.{is_some}
+use Rattle.std.proofs.Common.{sym}
 use Rattle.ba_http_chunks.proofs.Leading.{digit_is, no_digit_is}
 use Rattle.ba_http_chunks.proofs.chunks.with_digit.Goals as goal
 

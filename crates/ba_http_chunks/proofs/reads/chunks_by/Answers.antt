@@ -1,10 +1,10 @@
-use Rattle.std.proofs.Common.{◌≡◌, ◌≤◌, [], ◌++◌, length, take, drop, length-append, None, Some, Ok, Err, refl, sym, ap, append-nil, append_assoc, inl, inr, rules, ◌∙◌, subst, arith}
+use Rattle.std.proofs.Common.{[], ◌++◌, length, take, Ok, Err, sym, ap, append-nil, ◌∙◌, subst, arith}
 use Rattle.std.proofs.KnownBytes.{Consumes-trans, Consumes-nil, Keeps-refl, Keeps-trans}
 use Rattle.ba_http_head.specs.declared.faults.HttpFault.TheVariants.{Memory}
 use Rattle.ba_http_chunks.specs.inside.Progress.{Stands, Feeds}
-use Rattle.ba_http_chunks.proofs.Composing.{gives_none, gives_on}
+use Rattle.ba_http_chunks.proofs.Composing.{gives_none}
 use Rattle.ba_http_chunks.specs.Chunked.{Unchunks}
-use Rattle.ba_http_chunks.proofs.Blocks.{piece_ended, block_ended, block_fault, block_end, block_silent, block_unread, block_on, silent_memory, rest_of, small_piece, within_size, some_piece, falls, not_none}
+use Rattle.ba_http_chunks.proofs.Blocks.{block_ended, block_fault, block_end, block_silent, block_unread, block_on, silent_memory, rest_of, small_piece, within_size, some_piece, falls, not_none}
 use Rattle.ba_http_chunks.proofs.TrailerSteps.{none_taken}
 use Rattle.ba_http_chunks.proofs.Standing.{bounded}
 use Rattle.ba_http_chunks.proofs.reads.chunks_by.Goals as goal

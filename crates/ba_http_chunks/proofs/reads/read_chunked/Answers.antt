@@ -1,4 +1,4 @@
-use Rattle.std.proofs.Common.{[], ◌-◌, length, take, drop, Ok, sym, ◌∙◌, subst}
+use Rattle.std.proofs.Common.{[], Ok, ◌∙◌, subst}
 use Rattle.std.proofs.KnownBytes.{Keeps-refl}
 use Rattle.ba_http_chunks.specs.inside.Progress.{Feeds}
 use Rattle.ba_http_chunks.proofs.Blocks.{fed_then, fed_ended, fed_fault}

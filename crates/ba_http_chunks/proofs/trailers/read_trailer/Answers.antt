@@ -1,4 +1,4 @@
-use Rattle.std.proofs.Common.{◌≡◌, ◌≤◌, [], ◌++◌, length, take, length-append, Err, refl, sym, ap, append-nil, append_assoc, inl, inr, rules, ◌∙◌, subst, arith}
+use Rattle.std.proofs.Common.{◌≡◌, ◌≤◌, [], ◌++◌, length, take, length-append, Err, refl, sym, ap, append-nil, append_assoc, inl, rules, ◌∙◌, subst, arith}
 use Rattle.std.proofs.KnownBytes.{Consumes-trans, Consumes-nil, Keeps-refl, Keeps-trans}
 use Rattle.ba_http_head.specs.declared.faults.HttpFault.TheVariants.{Truncated}
 use Rattle.ba_http_head.specs.declared.headings.Heading.TheVariants.{Trailer}
