@@ -77,6 +77,7 @@ fn write_replay_note<N: Sink>(fault: ReplayFault, notes: &mut N) -> Result<(), N
             b" no such message\n",
             notes,
         ),
+        ReplayFault::World => write_all(notes, b"worlds are not replayed\n"),
         ReplayFault::Read => write_all(notes, b"read\n"),
         ReplayFault::Write => write_all(notes, b"write\n"),
         ReplayFault::Memory => write_all(notes, b"memory\n"),
@@ -217,7 +218,7 @@ fn replay_status(fault: ReplayFault) -> u8
     ensures { result ≡ replay_status fault }
 {
     match fault {
-        ReplayFault::BadLine(_, _) | ReplayFault::NoSuchMessage(_) => 3,
+        ReplayFault::BadLine(_, _) | ReplayFault::NoSuchMessage(_) | ReplayFault::World => 3,
         ReplayFault::Read => 4,
         ReplayFault::Write => 5,
         ReplayFault::Memory => 6,

@@ -56,7 +56,7 @@ const ROWS: [Row; 17] = [
         0,
         3,
         b"",
-        b"line 2 column 0\n",
+        b"line 2 column 6\n",
     ),
     (
         &["replay"],
