@@ -8,6 +8,8 @@ mod http_writer;
 #[cfg(test)]
 mod message;
 #[cfg(test)]
+mod texts;
+#[cfg(test)]
 mod tree;
 #[cfg(test)]
 mod wire;

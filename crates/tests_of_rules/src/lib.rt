@@ -4,6 +4,8 @@
 #[cfg(test)]
 mod cc;
 #[cfg(test)]
+mod objects;
+#[cfg(test)]
 mod pc;
 #[cfg(test)]
 mod scope;
