@@ -4,9 +4,8 @@
 
 use ba_xml::{Reader, XmlFault, read};
 use std::alloc::Global;
-use std::env;
-use std::fs;
 use std::process::ExitCode;
+use std::{env, fs};
 
 fn main(rt: HostRuntime) -> ExitCode {
     match asked(&rt) {

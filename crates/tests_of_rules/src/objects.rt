@@ -111,14 +111,29 @@ fn a_scope_is_made_and_closed(rt: HostRuntime) -> Result<(), Fail> {
     assert_eq!(rt; node.status(scope), Some(Seen::Scope(Kind::Atomic, None)));
     assert_eq!(rt; node.deadline(scope), Some(6_000));
     let participant = endpoint(rt.alloc(), 1)?;
-    assert_eq!(rt; enacted(&mut node, Record::End(2, 1, Protocol::Pc, participant))?, true);
+    assert_eq!(rt;
+        enacted(&mut node, Record::End(2, 1, Protocol::Pc, participant))?,
+        true
+    );
     let late = endpoint(rt.alloc(), 2)?;
-    assert_eq!(rt; enacted(&mut node, Record::End(2, 1, Protocol::Pc, late))?, false);
+    assert_eq!(rt;
+        enacted(&mut node, Record::End(2, 1, Protocol::Pc, late))?,
+        false
+    );
     assert_eq!(rt; node.in_scope(scope, 0), Some(end));
     assert_eq!(rt; node.in_scope(scope, 1), None);
-    assert_eq!(rt; enacted(&mut node, Record::Received(2, Notice::Completed))?, true);
-    assert_eq!(rt; enacted(&mut node, Record::Decided(1, Verdict::Close))?, true);
-    assert_eq!(rt; enacted(&mut node, Record::Decided(1, Verdict::Undo))?, false);
+    assert_eq!(rt;
+        enacted(&mut node, Record::Received(2, Notice::Completed))?,
+        true
+    );
+    assert_eq!(rt;
+        enacted(&mut node, Record::Decided(1, Verdict::Close))?,
+        true
+    );
+    assert_eq!(rt;
+        enacted(&mut node, Record::Decided(1, Verdict::Undo))?,
+        false
+    );
     assert_eq!(rt;
         node.status(end),
         Some(Seen::End(Protocol::Pc, CState::Closing, Some(Verdict::Close)))
@@ -128,10 +143,17 @@ fn a_scope_is_made_and_closed(rt: HostRuntime) -> Result<(), Fail> {
         number_of(letter),
         Some(Id(2 * 79_228_162_514_264_337_593_543_950_336 + end.0))
     );
-    assert_eq!(rt; enacted(&mut node, Record::Received(2, Notice::Closed))?, true);
+    assert_eq!(rt;
+        enacted(&mut node, Record::Received(2, Notice::Closed))?,
+        true
+    );
     assert_eq!(rt;
         node.status(end),
-        Some(Seen::End(Protocol::Pc, CState::Ended(How::Closed), Some(Verdict::Close)))
+        Some(Seen::End(
+            Protocol::Pc,
+            CState::Ended(How::Closed),
+            Some(Verdict::Close)
+        ))
     );
     Ok(())
 }
@@ -141,7 +163,10 @@ fn a_participant_joins(rt: HostRuntime) -> Result<(), Fail> {
     let part = Id::of(1, 1);
     let mut node = first_node(rt.alloc())?;
     let registration = endpoint(rt.alloc(), 1)?;
-    assert_eq!(rt; enacted(&mut node, Record::Part(1, Protocol::Cc, registration))?, true);
+    assert_eq!(rt;
+        enacted(&mut node, Record::Part(1, Protocol::Cc, registration))?,
+        true
+    );
     let letter = letter_of(&node, 0, part)?;
     assert_eq!(rt;
         number_of(letter),
@@ -155,11 +180,18 @@ fn a_participant_joins(rt: HostRuntime) -> Result<(), Fail> {
         address: List::new(rt.alloc()),
         parameters: List::new(rt.alloc()),
     };
-    let join = Input::Join { protocol: Protocol::Pc, registration: nowhere };
+    let join = Input::Join {
+        protocol: Protocol::Pc,
+        registration: nowhere,
+    };
     let refused = answer(&mut node, 0, join)?;
     assert_eq!(rt; refusal_of(refused), Some(46));
     let participant = endpoint(rt.alloc(), 2)?;
-    let register = Input::Register { scope: part, protocol: Some(Protocol::Pc), participant };
+    let register = Input::Register {
+        scope: part,
+        protocol: Some(Protocol::Pc),
+        participant,
+    };
     let fault = answer(&mut node, 0, register)?;
     assert_eq!(rt; fault_of(fault), Some(Code::DestinationUnreachable));
     Ok(())
