@@ -1,0 +1,14 @@
+pub mod Arriving
+pub mod Bases
+pub mod Driven
+pub mod EventDisks
+pub mod EventSteps
+pub mod Holding
+pub mod InPlaceLines
+pub mod NodeSteps
+pub mod Openings
+pub mod OwnAddresses
+pub mod Posted
+pub mod Quiet
+pub mod Starts
+pub mod Stories
