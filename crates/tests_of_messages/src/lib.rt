@@ -1,4 +1,4 @@
-//! Tests of trees, of messages and of their texts: each public call once, and what no clause says.
+//! Tests of messages and of what carries them: each public call once, and what no clause says.
 #![tactic(auto)]
 
 #[cfg(test)]
@@ -7,9 +7,5 @@ mod check;
 mod http_writer;
 #[cfg(test)]
 mod message;
-#[cfg(test)]
-mod texts;
-#[cfg(test)]
-mod tree;
 #[cfg(test)]
 mod wire;

@@ -1,5 +1,5 @@
-//! A worked Register, a parameter that is named as a header, envelopes that are refused, and what is written. What they
-//! mean, and their texts, were worked out by hand.
+//! A worked Register, a Close, a parameter that is named as a header, envelopes that are refused, a route and a context. What
+//! they mean was worked out by hand.
 
 ghost use Rattle.std.specs.Prelude.{◌≡◌, IfOk};
 
@@ -8,7 +8,7 @@ use ba_message::{Context, Epr, Letter, Message};
 use ba_shape::text_of;
 use ba_soap::{Header, SoapFault};
 use ba_wire::{
-    Decoded, Route, WireFault, context_of, decode, decode_tree, encode, envelope_tree, route_of,
+    Decoded, Route, WireFault, context_of, decode, decode_tree, envelope_tree, route_of,
     tree_of_context,
 };
 use ba_xml::{Reason, XmlFault, read, writable};
@@ -171,7 +171,7 @@ xmlns:wsba=\"http://docs.oasis-open.org/ws-tx/wsba/2006/06\"><soap:Header>\
 <soap:Body><wsba:Close/></soap:Body></soap:Envelope>";
 
 #[test]
-fn close_both_ways(rt: HostRuntime) -> Result<(), Fail> {
+fn close(rt: HostRuntime) -> Result<(), Fail> {
     let alloc = rt.alloc();
     let route = Route {
         to: None,
@@ -182,8 +182,6 @@ fn close_both_ways(rt: HostRuntime) -> Result<(), Fail> {
     let message = Message::Notice(Notice::Close);
     let tree = envelope_tree(alloc, &route, &message)?;
     assert!(rt; writable(&tree));
-    let text = encode(alloc, &route, &message)?;
-    assert_eq!(rt; text.as_slice(), CLOSE);
     let Decoded { route, message } = decode(alloc, CLOSE)?;
     assert_eq!(rt; shown(&route.to), b"-".as_slice());
     assert!(rt; matches!(message, Message::Notice(Notice::Close)));
