@@ -2,6 +2,8 @@
 //! for the whole at once, and how many times it is read.
 #![tactic(auto)]
 
+ghost use Rattle.std.specs.Prelude.{◌<◌};
+
 use ba_xml::{Reader, XmlFault, read};
 use std::alloc::Global;
 use std::process::ExitCode;
