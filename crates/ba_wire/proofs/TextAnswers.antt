@@ -14,7 +14,7 @@ use Rattle.ba_xml_grammar.specs.GrammarTexts.{IsXmlText}
 use Rattle.ba_xml_grammar.specs.Places.{IsAnswerOf}
 use Rattle.ba_xml_places.proofs.Answering.{holds, is_one}
 use Rattle.ba_xml_reader.proofs.Sound.{sound}
-use Rattle.ba_xml_reader.specs.Machine.{xml_answer}
+use Rattle.ba_xml_reader.specs.inside.Machine.{xml_answer}
 use Rattle.ba_xml_words.specs.declared.faults.Reason.{Reason}
 use Rattle.ba_xml_words.specs.declared.faults.XmlFault.{XmlFault}
 use Rattle.ba_xml_words.specs.declared.faults.XmlFault.TheVariants as xml

@@ -17,4 +17,4 @@ pub use envelopes::{encode, envelope_tree, is_known, message_name};
 pub use faults::{WireFault, code_for};
 pub use laws::{memory_refuses_no_tree, messages_are_read_back};
 pub use meaning::{Decoded, decode, decode_tree};
-pub use routes::{Route, route_of};
+pub use routes::{Route, number_urn, route_of};

@@ -2,14 +2,15 @@
 use Rattle.std.proofs.Common.{◌≡◌, ◌≢◌, ℕ, Result, Ok, Err, List, ◌++◌, refl, ap, sym, subst, ◌∙◌}
 use Rattle.ba_tree.specs.declared.trees.Tree.{Tree}
 use Rattle.ba_xml.specs.Reading.{IsReadOf, IsFirstCause, IsToldOf}
-use Rattle.ba_xml.specs.inside.Progress.{ComesTo, GoesOn, IsProgressOf, IsFed, told_by, answer_by}
+use Rattle.ba_xml.specs.Feeding.{IsFed}
+use Rattle.ba_xml.specs.inside.Progress.{ComesTo, GoesOn, IsProgressOf, told_by, answer_by}
 use Rattle.ba_xml.specs.declared.readers.Progress.{Progress}
 use Rattle.ba_xml.specs.declared.readers.Progress.TheVariants.{Reads, Faulted, Starved}
 use Rattle.ba_xml.specs.declared.readers.Reader.{Reader}
 use Rattle.ba_xml_grammar.specs.Places.{IsRefused, IsAnswerOf}
 use Rattle.ba_xml_places.proofs.Answering.{taken_free, cause_answered, holds, stopped}
 use Rattle.ba_xml_reader.proofs.Runs.{run_append, run_refused}
-use Rattle.ba_xml_reader.specs.Machine.{start, run, answer_of}
+use Rattle.ba_xml_reader.specs.inside.Machine.{start, run, answer_of}
 use Rattle.ba_xml_reader.specs.inside.Readings.{Reading, Refused, Going}
 use Rattle.ba_xml_words.specs.declared.faults.Reason.{Reason}
 use Rattle.ba_xml_words.specs.declared.faults.Reason.TheVariants as reason

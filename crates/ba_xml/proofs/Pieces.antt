@@ -6,7 +6,7 @@ use Rattle.std.proofs.lemmas.List.{drop_all, drop-drop, length-take-le, take-app
 use Rattle.ba_xml_reader.proofs.CompleteLayers.{run_one}
 use Rattle.ba_xml_reader.proofs.Kept.{Told, told}
 use Rattle.ba_xml_reader.proofs.Runs.{run_none, run_append, run_refused, from_there}
-use Rattle.ba_xml_reader.specs.Machine.{run, turned, counted, reason_at}
+use Rattle.ba_xml_reader.specs.inside.Machine.{run, turned, counted, reason_at}
 use Rattle.ba_xml_reader.specs.declared.machine.Scan.{Scan}
 use Rattle.ba_xml_reader.specs.inside.Readings.{Reading, Refused, Going}
 use Rattle.ba_xml_reader.specs.inside.Turns.{Turn}

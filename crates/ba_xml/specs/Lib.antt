@@ -1,2 +1,3 @@
-pub mod inside
+pub mod Feeding
 pub mod Reading
+pub mod inside

@@ -1,10 +1,11 @@
 //! Reads a text, at once or in pieces.
 ghost use Rattle.std.specs.Prelude.{◌≡◌, ◌≢◌, ◌++◌, ℕ, List, [], Result, Err, IfOk};
 ghost use Rattle.ba_tree.specs.declared.trees.Tree.{Tree};
+ghost use Rattle.ba_xml.specs.Feeding.{IsFed, IsStarved};
 ghost use Rattle.ba_xml.specs.Reading.{IsReadOf, IsToldOf, IsFirstCause};
-ghost use Rattle.ba_xml.specs.inside.Progress.{ComesTo, GoesOn, IsFed, IsStarved, told_by, answer_by};
+ghost use Rattle.ba_xml.specs.inside.Progress.{ComesTo, GoesOn, told_by, answer_by};
 ghost use Rattle.ba_xml_grammar.specs.Places.{IsAnswerOf};
-ghost use Rattle.ba_xml_reader.specs.Machine.{answer_of};
+ghost use Rattle.ba_xml_reader.specs.inside.Machine.{answer_of};
 ghost use Rattle.ba_xml_reader.specs.inside.Readings.{Going};
 ghost use Rattle.ba_xml_words.specs.declared.faults.Reason.{Reason};
 ghost use Rattle.ba_xml_words.specs.declared.faults.XmlFault.{XmlFault};

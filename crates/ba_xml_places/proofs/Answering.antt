@@ -10,7 +10,7 @@ use Rattle.ba_xml_places.proofs.Exact as exact
 use Rattle.ba_xml_places.proofs.Least.{NoLater, IsRefusedBy, tag_refused}
 use Rattle.ba_xml_places.proofs.Sizes.{too_large}
 use Rattle.ba_xml_places.proofs.Table.{dies_later, has_cause}
-use Rattle.ba_xml_places.specs.Taken.{IsTaken}
+use Rattle.ba_xml_places.specs.inside.Taken.{IsTaken}
 use Rattle.ba_xml_reader.proofs.Complete.{complete}
 use Rattle.ba_xml_reader.proofs.Dead.{refused_none}
 use Rattle.ba_xml_reader.proofs.Kept.{stays}
@@ -20,7 +20,7 @@ use Rattle.ba_xml_reader.proofs.SoundBack.{back}
 use Rattle.ba_xml_reader.proofs.SoundDocuments.{top}
 use Rattle.ba_xml_grammar.specs.Grammar.{written_attribute, written_pairs, written_tag}
 use Rattle.ba_xml_grammar.specs.Places.{IsCause, IsDead, IsLeast, IsTruncated, IsRefused, IsAnswerOf, number_of}
-use Rattle.ba_xml_reader.specs.Machine.{start, run, turned, counted, reason_at, reason_past, finished, answer_by, answer_of, xml_answer}
+use Rattle.ba_xml_reader.specs.inside.Machine.{start, run, turned, counted, reason_at, reason_past, finished, answer_by, answer_of, xml_answer}
 use Rattle.ba_xml_words.specs.declared.faults.Reason.{Reason}
 use Rattle.ba_xml_words.specs.declared.faults.Reason.TheVariants as reason
 use Rattle.ba_xml_words.specs.declared.faults.XmlFault.{XmlFault}

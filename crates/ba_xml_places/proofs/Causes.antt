@@ -16,7 +16,7 @@ use Rattle.ba_xml_reader.proofs.SoundDocuments.{top}
 use Rattle.ba_xml_grammar.specs.Grammar.{Document, written_document, written_tag}
 use Rattle.ba_xml_grammar.specs.GrammarTexts.{lines, IsWrittenAs, IsWellFormed}
 use Rattle.ba_xml_grammar.specs.Places.{Standing, document_standings, EndsLine, IsCause}
-use Rattle.ba_xml_reader.specs.Machine.{start, run, state_after, xml_answer}
+use Rattle.ba_xml_reader.specs.inside.Machine.{start, run, state_after, xml_answer}
 use Rattle.ba_xml_words.specs.declared.faults.Reason.{Reason}
 use Rattle.ba_xml_words.specs.declared.faults.Reason.TheVariants as reason
 use Rattle.ba_xml_words.specs.declared.faults.XmlFault.TheVariants as fault

@@ -4,12 +4,12 @@ use Rattle.ba_tree.specs.declared.trees.Tree.{Tree}
 use Rattle.ba_xml_places.proofs.Answering.{taken_free}
 use Rattle.ba_xml_places.proofs.Earlier.{taken_front, text_taken}
 use Rattle.ba_xml_places.specs.Cuts.{IsTextOrBeginning}
-use Rattle.ba_xml_places.specs.Taken.{IsTaken}
+use Rattle.ba_xml_places.specs.inside.Taken.{IsTaken}
 use Rattle.ba_xml_reader.proofs.Complete.{complete}
 use Rattle.ba_xml_reader.proofs.Dead.{refused_none}
 use Rattle.ba_xml_reader.proofs.Sound.{sound}
 use Rattle.ba_xml_grammar.specs.GrammarTexts.{IsXmlText}
-use Rattle.ba_xml_reader.specs.Machine.{run, start, finished, answer_by, answer_of, xml_answer}
+use Rattle.ba_xml_reader.specs.inside.Machine.{run, start, finished, answer_by, answer_of, xml_answer}
 use Rattle.ba_xml_reader.specs.inside.Readings.{Going}
 use Rattle.ba_xml_words.specs.declared.faults.Reason.TheVariants as reason
 use Rattle.ba_xml_words.specs.declared.faults.XmlFault.TheVariants as fault

@@ -5,10 +5,10 @@ use Rattle.std.proofs.lemmas.List.{take-append-drop, take-take}
 use Rattle.ba_tree.specs.declared.trees.Tree.{Tree}
 use Rattle.ba_xml_places.proofs.Exact.{same_fault, stop, early_taken}
 use Rattle.ba_xml_places.proofs.Viable.{viable}
-use Rattle.ba_xml_places.specs.Taken.{IsTaken}
+use Rattle.ba_xml_places.specs.inside.Taken.{IsTaken}
 use Rattle.ba_xml_reader.proofs.Runs.{run_append, run_refused}
 use Rattle.ba_xml_grammar.specs.Places.{IsDead}
-use Rattle.ba_xml_reader.specs.Machine.{start, run, answer_of, xml_answer}
+use Rattle.ba_xml_reader.specs.inside.Machine.{start, run, answer_of, xml_answer}
 use Rattle.ba_xml_words.specs.declared.faults.Reason.{Reason}
 use Rattle.ba_xml_words.specs.declared.faults.Reason.TheVariants as reason
 use Rattle.ba_xml_words.specs.declared.faults.XmlFault.TheVariants as fault

@@ -6,7 +6,7 @@ use Rattle.ba_tree.specs.declared.trees.Tree.{Tree}
 use Rattle.ba_xml_places.proofs.Live.{IsOfState, Live}
 use Rattle.ba_xml_places.proofs.Utf8.{passed_utf8, syntax_utf8, no_early}
 use Rattle.ba_xml_places.proofs.Viable.{IsReached, returned_step, reached, tail, tail_octets, viable}
-use Rattle.ba_xml_places.specs.Taken.{IsTaken}
+use Rattle.ba_xml_places.specs.inside.Taken.{IsTaken}
 use Rattle.ba_xml_reader.proofs.CompleteCharacters.{octets, octets_append}
 use Rattle.ba_xml_reader.proofs.CompleteLayers.{run_none, run_one, scanned}
 use Rattle.ba_xml_reader.proofs.CompleteUtf8.{utf8_passed}
@@ -15,9 +15,9 @@ use Rattle.ba_xml_reader.proofs.SoundBack.{back}
 use Rattle.ba_xml_reader.proofs.SoundDocuments.{top}
 use Rattle.ba_xml_grammar.specs.GrammarTexts.{CanContinue}
 use Rattle.ba_xml_grammar.specs.Places.{IsDead, BeginsUtf8, IsCause}
-use Rattle.ba_xml_reader.specs.Machine.{start, run, unless_returned, turned, turned_by, turned_from, counted, reason_at, reason_past}
-use Rattle.ba_xml_reader.specs.Machine.{finished}
-use Rattle.ba_xml_reader.specs.Machine.{answer_by, answer_of, xml_answer}
+use Rattle.ba_xml_reader.specs.inside.Machine.{start, run, unless_returned, turned, turned_by, turned_from, counted, reason_at, reason_past}
+use Rattle.ba_xml_reader.specs.inside.Machine.{finished}
+use Rattle.ba_xml_reader.specs.inside.Machine.{answer_by, answer_of, xml_answer}
 use Rattle.ba_xml_words.specs.inside.Octets.{octet_after}
 use Rattle.ba_xml_words.specs.declared.faults.Reason.{Reason}
 use Rattle.ba_xml_words.specs.declared.faults.Reason.TheVariants as reason

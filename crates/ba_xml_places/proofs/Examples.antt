@@ -3,7 +3,7 @@ use Rattle.std.proofs.Common.{◌≡◌, ℕ, Err, List, ◌∷◌, ◌++◌, co
 use Rattle.ba_xml_grammar.specs.Places.{IsCause, IsAnswerOf}
 use Rattle.ba_xml_names.specs.Namespaces.{opening}
 use Rattle.ba_xml_places.proofs.Answering.{holds}
-use Rattle.ba_xml_reader.specs.Machine.{run, reading_after, state_after, xml_answer}
+use Rattle.ba_xml_reader.specs.inside.Machine.{run, reading_after, state_after, xml_answer}
 use Rattle.ba_xml_words.specs.Classes.{class_of, mark_of}
 use Rattle.ba_xml_words.specs.inside.Octets.{octet_after, lead}
 use Rattle.ba_xml_words.specs.declared.faults.Reason.TheVariants as reason

@@ -21,8 +21,8 @@ use Rattle.ba_xml_reader.proofs.SoundDocuments.{top}
 use Rattle.ba_xml_grammar.specs.Grammar.{Document, written_document, IsDocument}
 use Rattle.ba_xml_grammar.specs.GrammarTexts.{lines, IsOfCharacters, IsWrittenAs}
 use Rattle.ba_xml_grammar.specs.Places.{Standing, document_standings, EndsLine, number_of}
-use Rattle.ba_xml_reader.specs.Machine.{start, run, state_after, line_end, unless_returned, turned, turned_by, turned_from, counted}
-use Rattle.ba_xml_reader.specs.Machine.{reason_at, reason_past, xml_answer}
+use Rattle.ba_xml_reader.specs.inside.Machine.{start, run, state_after, line_end, unless_returned, turned, turned_by, turned_from, counted}
+use Rattle.ba_xml_reader.specs.inside.Machine.{reason_at, reason_past, xml_answer}
 use Rattle.ba_xml_words.specs.inside.Octets.{octet_after}
 use Rattle.ba_xml_words.specs.declared.faults.Reason.{Reason}
 use Rattle.ba_xml_words.specs.declared.faults.Reason.TheVariants as reason

@@ -25,7 +25,7 @@ use Rattle.ba_xml_names.specs.inside.Levels.{place_of, place_outside}
 use Rattle.ba_xml_names.specs.inside.Tags.{with_attribute}
 use Rattle.ba_xml_reader.specs.inside.Content as content
 use Rattle.ba_xml_reader.specs.inside.Tags as tags
-use Rattle.ba_xml_reader.specs.Machine.{act, state_after}
+use Rattle.ba_xml_reader.specs.inside.Machine.{act, state_after}
 use Rattle.ba_xml_grammar.specs.GrammarWords.{Each, IsName, IsPlainName, IsPrefix, is_name_letter, IsQuote}
 use Rattle.ba_xml_words.specs.declared.classes.Class.{Class}
 use Rattle.ba_xml_words.specs.declared.classes.Class.TheVariants as class

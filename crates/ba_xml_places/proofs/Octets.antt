@@ -24,7 +24,7 @@ use Rattle.ba_xml_names.specs.inside.Levels.{place_outside}
 use Rattle.ba_xml_names.specs.inside.Tags.{with_attribute}
 use Rattle.ba_xml_reader.specs.inside.Content as content
 use Rattle.ba_xml_reader.specs.inside.Tags as tags
-use Rattle.ba_xml_reader.specs.Machine.{act_by, state_after}
+use Rattle.ba_xml_reader.specs.inside.Machine.{act_by, state_after}
 use Rattle.ba_xml_grammar.specs.GrammarWords.{IsQuote}
 use Rattle.ba_xml_words.specs.declared.classes.Class.TheVariants as class
 use Rattle.ba_xml_words.specs.declared.faults.Reason.TheVariants.{Syntax, NotUtf8}

@@ -17,9 +17,9 @@ use Rattle.ba_xml_reader.proofs.SoundBack.{back}
 use Rattle.ba_xml_reader.proofs.SoundDocuments.{top}
 use Rattle.ba_xml_grammar.specs.GrammarTexts.{lines, IsWellFormed, CanContinue}
 use Rattle.ba_xml_grammar.specs.Places.{IsCause, IsDead}
-use Rattle.ba_xml_reader.specs.Machine.{start, run, unless_returned, turned, turned_by, turned_from, counted, reason_at, reason_past}
-use Rattle.ba_xml_reader.specs.Machine.{finished, answer_by}
-use Rattle.ba_xml_reader.specs.Machine.{answer_of, xml_answer}
+use Rattle.ba_xml_reader.specs.inside.Machine.{start, run, unless_returned, turned, turned_by, turned_from, counted, reason_at, reason_past}
+use Rattle.ba_xml_reader.specs.inside.Machine.{finished, answer_by}
+use Rattle.ba_xml_reader.specs.inside.Machine.{answer_of, xml_answer}
 use Rattle.ba_xml_words.specs.inside.Octets.{octet_after}
 use Rattle.ba_xml_words.specs.declared.faults.Reason.{Reason}
 use Rattle.ba_xml_words.specs.declared.faults.Reason.TheVariants as reason

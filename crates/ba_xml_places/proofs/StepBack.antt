@@ -20,7 +20,7 @@ use Rattle.ba_xml_reader.specs.inside.Content.{begin_after, wanted_after, mark_o
 use Rattle.ba_xml_reader.specs.inside.Content.{open_after, starting_at, below, ending_at, exclaimed_after, section_at, hyphened_after}
 use Rattle.ba_xml_reader.specs.inside.Content.{declaring_by}
 use Rattle.ba_xml_names.specs.inside.Levels.{place_of, place_outside, tree_of}
-use Rattle.ba_xml_reader.specs.Machine.{act}
+use Rattle.ba_xml_reader.specs.inside.Machine.{act}
 use Rattle.ba_xml_reader.specs.inside.Tags.{end_name_by, end_name_after, end_space_after, closed}
 use Rattle.ba_xml_grammar.specs.Grammar.{misc_end, no_head}
 use Rattle.ba_xml_words.specs.declared.classes.Class.{Class}

@@ -24,7 +24,7 @@ use Rattle.ba_xml_reader.proofs.CompleteSteps.{steps, none, one, by_kind, go}
 use Rattle.ba_xml_reader.proofs.CompleteTags.{IsBreak, gap_runs, pair_runs, space_runs, pairs_break, white_break, tag_named, in_tag, bare}
 use Rattle.ba_xml_words.specs.Classes.{is_first_letter, class_of}
 use Rattle.ba_xml_names.specs.inside.Levels.{settled, with_child, child_level, empty_tree, text_item}
-use Rattle.ba_xml_reader.specs.Machine.{state_after, document}
+use Rattle.ba_xml_reader.specs.inside.Machine.{state_after, document}
 use Rattle.ba_xml_words.specs.inside.Names.{one_letter, spelled}
 use Rattle.ba_xml_names.specs.Namespaces.{opening, scope, first_scope}
 use Rattle.ba_xml_names.specs.inside.Tags.{with_attribute}

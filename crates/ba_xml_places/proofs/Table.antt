@@ -7,7 +7,7 @@ use Rattle.ba_xml_places.proofs.Sizes.{too_large, large_alive, large_before_dead
 use Rattle.ba_xml_grammar.specs.GrammarTexts.{CanContinue}
 use Rattle.ba_xml_grammar.specs.Places.{IsCause, IsDead}
 use Rattle.ba_xml_places.specs.Limits.{IsOfLimits}
-use Rattle.ba_xml_reader.specs.Machine.{xml_answer}
+use Rattle.ba_xml_reader.specs.inside.Machine.{xml_answer}
 use Rattle.ba_xml_words.specs.declared.faults.Reason.{Reason}
 use Rattle.ba_xml_words.specs.declared.faults.Reason.TheVariants as reason
 use Rattle.ba_xml_words.specs.declared.faults.XmlFault.TheVariants as fault

@@ -11,7 +11,7 @@ use Rattle.ba_xml_places.proofs.LiveSteps.{live_after}
 use Rattle.ba_xml_places.proofs.Octets.{IsFreeMode, IsFree, FitsMode, Fits, after_BB, after_BF, high_fits, low_fits, free_after, low_was}
 use Rattle.ba_xml_places.proofs.Octets.{low_between}
 use Rattle.ba_xml_places.proofs.StepBack.{goes_back}
-use Rattle.ba_xml_places.specs.Taken.{IsTaken}
+use Rattle.ba_xml_places.specs.inside.Taken.{IsTaken}
 use Rattle.ba_xml_reader.proofs.CompleteCharacters.{octets, octets_append, lead_one}
 use Rattle.ba_xml_reader.proofs.CompleteLayers.{run_none, run_one, line_step, scanned}
 use Rattle.ba_xml_reader.proofs.CompleteSteps.{steps, none, one}
@@ -26,8 +26,8 @@ use Rattle.ba_xml_grammar.specs.Grammar.{Document, written_document, written_mar
 use Rattle.ba_xml_grammar.specs.Grammar.{no_head}
 use Rattle.ba_xml_grammar.specs.GrammarTexts.{lines, IsWellFormed, CanContinue}
 use Rattle.ba_xml_grammar.specs.GrammarWords.{Each}
-use Rattle.ba_xml_reader.specs.Machine.{document, start, run, state_after, line_end, unless_returned, turned_by, turned_from}
-use Rattle.ba_xml_reader.specs.Machine.{counted, reason_at}
+use Rattle.ba_xml_reader.specs.inside.Machine.{document, start, run, state_after, line_end, unless_returned, turned_by, turned_from}
+use Rattle.ba_xml_reader.specs.inside.Machine.{counted, reason_at}
 use Rattle.ba_xml_words.specs.declared.faults.Reason.{Reason}
 use Rattle.ba_xml_words.specs.declared.faults.Reason.TheVariants as reason
 use Rattle.ba_xml_reader.specs.declared.machine.Scan.{Scan}

@@ -1,3 +1,3 @@
 pub mod Cuts
 pub mod Limits
-pub mod Taken
+pub mod inside

@@ -7,7 +7,7 @@ use Rattle.ba_xml_reader.proofs.CompleteDocuments.{document_runs, ended_tree}
 use Rattle.ba_xml_reader.proofs.CompleteLayers.{to}
 use Rattle.ba_xml_reader.proofs.CompletePieces.{holding}
 use Rattle.ba_xml_reader.proofs.CompleteSteps.{steps}
-use Rattle.ba_xml_reader.specs.Machine.{document, run, answer_by, answer_of, xml_answer}
+use Rattle.ba_xml_reader.specs.inside.Machine.{document, run, answer_by, answer_of, xml_answer}
 use Rattle.ba_xml_grammar.specs.GrammarTexts.{lines, IsOfCharacters, IsXmlText}
 use Rattle.ba_xml_reader.specs.inside.Readings as reading
 use Rattle.ba_xml_words.specs.declared.octets.Octet.TheVariants.{Between}

@@ -3,7 +3,7 @@ use Rattle.std.proofs.Common.{◌≡◌, ℕ, Bool, true, false, ◌==◌, ◌�
 use Rattle.ba_xml_reader.proofs.CompleteSteps.{steps, by_kind, go, IsByte, told, no_control, space_kind}
 use Rattle.ba_xml_words.specs.Classes.{class_of, mark_of}
 use Rattle.ba_xml_names.specs.inside.Levels.{put, put_all}
-use Rattle.ba_xml_reader.specs.Machine.{state_after, act_by}
+use Rattle.ba_xml_reader.specs.inside.Machine.{state_after, act_by}
 use Rattle.ba_xml_grammar.specs.Grammar.{IsComment, IsSection}
 use Rattle.ba_xml_grammar.specs.GrammarWords.{Each, Nowhere, IsWhite, Differ, is_character}
 use Rattle.ba_xml_words.specs.declared.classes.Class.{Class}

@@ -10,7 +10,7 @@ use Rattle.ba_xml_reader.proofs.CompletePieces.{Firsts, less_kind, exclamation_k
 use Rattle.ba_xml_reader.proofs.CompleteSteps.{steps, none, one, by_kind, go, space_kind}
 use Rattle.ba_xml_words.specs.Classes.{is_space, class_of, mark_of}
 use Rattle.ba_xml_names.specs.inside.Levels.{settled, child_level}
-use Rattle.ba_xml_reader.specs.Machine.{state_after, act_by, document, ended, child_by}
+use Rattle.ba_xml_reader.specs.inside.Machine.{state_after, act_by, document, ended, child_by}
 use Rattle.ba_xml_words.specs.inside.Names.{spelled}
 use Rattle.ba_xml_names.specs.Namespaces.{first_scope}
 use Rattle.ba_xml_grammar.specs.Grammar.{Start, Pieces, nothing, empty, element, Misc, misc_end, misc_space, misc_comment, Head, no_head, head, Document, written, written_tag, written_end, written_misc, written_heading, written_mark, written_document, meant, meaning, Allowed, IsComment, IsMisc, IsRoot, IsHeading, IsDocument, Resolves, Small}

@@ -9,7 +9,7 @@ use Rattle.ba_xml_words.specs.Classes.{class_of, mark_of}
 use Rattle.ba_xml_words.specs.inside.Octets.{octet_after, lead}
 use Rattle.ba_xml_words.specs.declared.faults.Reason.TheVariants as reason
 use Rattle.ba_xml_words.specs.declared.faults.XmlFault.TheVariants as fault
-use Rattle.ba_xml_reader.specs.Machine.{run, reading_after, state_after, xml_answer}
+use Rattle.ba_xml_reader.specs.inside.Machine.{run, reading_after, state_after, xml_answer}
 use Rattle.ba_xml_names.specs.Namespaces.{opening, first_scope}
 use Rattle.ba_xml_grammar.specs.Grammar.{value_end, value_character, value_reference, Start, nothing, character, reference, section, comment, empty, element, misc_end, misc_space, no_head, head, Saying, encoding, no_standalone, Document, IsDocument, IsSaying, IsExplained, meaning}
 use Rattle.ba_xml_grammar.specs.GrammarTexts.{IsXmlText, IsOfCharacters, CanContinue}

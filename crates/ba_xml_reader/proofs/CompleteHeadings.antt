@@ -6,7 +6,7 @@ use Rattle.ba_xml_reader.proofs.CompleteSteps.{steps, one, by_kind, go, space_ki
 use Rattle.ba_xml_words.specs.Classes.{class_of, mark_of}
 use Rattle.ba_xml_words.specs.inside.Headings.{heading_after, first_setting, said_by}
 use Rattle.ba_xml_reader.specs.inside.Content.{declaring_by}
-use Rattle.ba_xml_reader.specs.Machine.{document}
+use Rattle.ba_xml_reader.specs.inside.Machine.{document}
 use Rattle.ba_xml_words.specs.inside.Words.{reached_at}
 use Rattle.ba_xml_grammar.specs.Grammar.{Saying, Encoding, no_encoding, encoding, Standalone, no_standalone, standalone, head, written_saying, written_encoding, written_standalone, yes_or_no, IsSaying, IsEncoding, IsStandalone, IsHeading}
 use Rattle.ba_xml_grammar.specs.GrammarWords.{IsWhite, IsGap, IsQuote}

@@ -3,7 +3,7 @@ use Rattle.std.proofs.Common.{◌≡◌, ℕ, ◌+◌, ◌<◌, ◌≤◌, ◌==
 use Rattle.std.proofs.lemmas.Bool.{lt-ltb, eqb-true}
 use Rattle.ba_xml_reader.proofs.CompleteCharacters.{octets}
 use Rattle.ba_xml_reader.proofs.CompleteSteps.{steps, none, one}
-use Rattle.ba_xml_reader.specs.Machine.{state_after, unless_returned, turned_by, turned, turned_from, counted, reading_after, run}
+use Rattle.ba_xml_reader.specs.inside.Machine.{state_after, unless_returned, turned_by, turned, turned_from, counted, reading_after, run}
 use Rattle.ba_xml_words.specs.inside.Octets.{octet_after}
 use Rattle.ba_xml_grammar.specs.GrammarTexts.{lines}
 use Rattle.ba_xml_words.specs.declared.faults.Reason.{Reason}

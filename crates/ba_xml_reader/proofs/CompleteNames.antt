@@ -6,7 +6,7 @@ use Rattle.std.specs.Int.{is_in_range}
 use Rattle.ba_xml_reader.proofs.CompleteContent.{hyphen_kind}
 use Rattle.ba_xml_reader.proofs.CompleteSteps.{steps, one, go}
 use Rattle.ba_xml_words.specs.Classes.{is_space, is_first_letter, is_digit_or_dot, class_of, mark_of}
-use Rattle.ba_xml_reader.specs.Machine.{state_after}
+use Rattle.ba_xml_reader.specs.inside.Machine.{state_after}
 use Rattle.ba_xml_words.specs.inside.Names.{spelled, grown, one_letter, unlettered}
 use Rattle.ba_xml_words.specs.inside.Remaining.{met}
 use Rattle.ba_xml_reader.specs.inside.Tags.{end_name_by}

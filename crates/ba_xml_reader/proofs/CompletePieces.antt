@@ -12,7 +12,7 @@ use Rattle.ba_xml_reader.proofs.CompleteTags.{tag_runs, Breaks}
 use Rattle.ba_xml_words.specs.Classes.{is_first_letter, class_of, mark_of}
 use Rattle.ba_xml_reader.specs.inside.Content.{reference_by}
 use Rattle.ba_xml_names.specs.inside.Levels.{settled, with_child, tree_of, child_level, empty_tree, text_item}
-use Rattle.ba_xml_reader.specs.Machine.{state_after}
+use Rattle.ba_xml_reader.specs.inside.Machine.{state_after}
 use Rattle.ba_xml_words.specs.inside.Names.{spelled, one_letter}
 use Rattle.ba_xml_names.specs.Namespaces.{opening, scope}
 use Rattle.ba_xml_reader.specs.inside.Tags.{slashed_at, opened_at}

@@ -5,7 +5,7 @@ use Rattle.std.proofs.lemmas.Bool.{lt-ltb, leb-true, eqb-true, ne_eqb}
 use Rattle.std.specs.Char.{is_digit, digit_value}
 use Rattle.ba_tree.specs.Characters as characters
 use Rattle.ba_xml_reader.proofs.CompleteSteps.{steps, one}
-use Rattle.ba_xml_reader.specs.Machine.{state_after}
+use Rattle.ba_xml_reader.specs.inside.Machine.{state_after}
 use Rattle.ba_xml_words.specs.inside.References.{referred, is_legal, number_on, hashed, with_digit}
 use Rattle.ba_xml_grammar.specs.GrammarWords.{Each, Reference, reference_text, character_of, number_behind, IsNumber, IsReference}
 use Rattle.ba_xml_grammar.specs.GrammarWords.{less, greater, ampersand, apostrophe, quotation, decimal, hexadecimal}

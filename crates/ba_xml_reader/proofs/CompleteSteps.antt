@@ -2,7 +2,7 @@
 use Rattle.std.proofs.Common.{◌≡◌, ℕ, Bool, true, false, cond, ◌||◌, not, ◌==◌, nat_lt, List, [], ◌∷◌, refl, sym, ap, subst, true≢false}
 use Rattle.std.proofs.Common.{eqb→eq, T}
 use Rattle.ba_xml_words.specs.Classes.{is_space, is_first_letter, is_digit_or_dot, class_of, mark_of}
-use Rattle.ba_xml_reader.specs.Machine.{state_after, act_by}
+use Rattle.ba_xml_reader.specs.inside.Machine.{state_after, act_by}
 use Rattle.ba_xml_grammar.specs.GrammarWords.{is_character}
 use Rattle.ba_xml_words.specs.declared.classes.Class.{Class}
 use Rattle.ba_xml_words.specs.declared.classes.Class.TheVariants as class

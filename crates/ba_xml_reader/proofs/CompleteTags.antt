@@ -8,7 +8,7 @@ use Rattle.ba_xml_reader.proofs.CompleteReferences.{reference_runs, follows}
 use Rattle.ba_xml_reader.proofs.CompleteSteps.{steps, one, by_kind, go, IsByte, told, no_control, space_kind}
 use Rattle.ba_xml_reader.proofs.CompleteContent.{Differing}
 use Rattle.ba_xml_words.specs.Classes.{is_space, is_first_letter, class_of, mark_of}
-use Rattle.ba_xml_reader.specs.Machine.{state_after}
+use Rattle.ba_xml_reader.specs.inside.Machine.{state_after}
 use Rattle.ba_xml_words.specs.inside.Names.{one_letter, is_written, same_name}
 use Rattle.ba_xml_names.specs.inside.Tags.{with_attribute}
 use Rattle.ba_xml_reader.specs.inside.Tags.{value_by, value_reference_by, attribute_name_by, name_ended, equals_after, tag_name_by}

@@ -7,7 +7,7 @@ use Rattle.ba_xml_reader.proofs.CompleteDocuments.{outside}
 use Rattle.ba_xml_reader.proofs.CompleteFronts.{IsLimit, Limited, document_or}
 use Rattle.ba_xml_reader.proofs.CompleteLayers.{stays, run_none, run_one, line_step, scanned}
 use Rattle.ba_xml_reader.proofs.CompleteSteps.{steps}
-use Rattle.ba_xml_reader.specs.Machine.{document, run, start, unless_returned, turned, turned_by, turned_from, counted, reason_at, reason_past, reading_after, answer_by, answer_of, finished, xml_answer}
+use Rattle.ba_xml_reader.specs.inside.Machine.{document, run, start, unless_returned, turned, turned_by, turned_from, counted, reason_at, reason_past, reading_after, answer_by, answer_of, finished, xml_answer}
 use Rattle.ba_xml_words.specs.inside.Octets.{octet_after}
 use Rattle.ba_tree.specs.declared.trees.Content.{Content}
 use Rattle.ba_xml_names.specs.Namespaces.{first_scope}

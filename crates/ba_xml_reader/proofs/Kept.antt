@@ -2,7 +2,7 @@
 use Rattle.std.proofs.Common.{◌≡◌, ◌≢◌, ℕ, ◌+◌, ◌<◌, ◌≤◌, Bool, true, false, cond, nat_lt, List, [], ◌∷◌, length, Option, Some, None, Result, Ok, Err, refl, ap, sym, subst, ◌∙◌, arith}
 use borrow.Author.Tests.{ltb-true}
 use Rattle.ba_tree.specs.declared.trees.Tree.{Tree}
-use Rattle.ba_xml_reader.specs.Machine.{run, reading_after, counted, turned, reason_at, answer_of, answer_by, finished}
+use Rattle.ba_xml_reader.specs.inside.Machine.{run, reading_after, counted, turned, reason_at, answer_of, answer_by, finished}
 use Rattle.ba_xml_words.specs.declared.faults.Reason.{Reason}
 use Rattle.ba_xml_words.specs.declared.faults.Reason.TheVariants.{Size, Truncated}
 use Rattle.ba_xml_words.specs.declared.faults.XmlFault.{XmlFault}

@@ -6,7 +6,7 @@ use Rattle.std.proofs.lemmas.List.{length-take-le}
 use Rattle.std.proofs.lemmas.Bool.{ltb-true, lt-ltb, eqb-true, eqb-false}
 use Rattle.ba_xml_words.specs.Classes.{class_of, mark_of}
 use Rattle.ba_xml_names.specs.inside.Levels.{put}
-use Rattle.ba_xml_reader.specs.Machine.{run, reading_after, counted, turned, turned_by, turned_from, state_after, act_by}
+use Rattle.ba_xml_reader.specs.inside.Machine.{run, reading_after, counted, turned, turned_by, turned_from, state_after, act_by}
 use Rattle.ba_xml_words.specs.inside.Names.{with_letters}
 use Rattle.ba_xml_words.specs.inside.Octets.{octet_after, lead}
 use Rattle.ba_xml_reader.specs.inside.Spans.{is_plain, is_letter, is_put, is_none, is_run, is_run_in, before_name, puts_inside, with_span, with_span_at, with_span_in}

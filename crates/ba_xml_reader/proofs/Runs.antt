@@ -1,7 +1,7 @@
 -- Runs of the machine over one byte, over pieces, and after a refusal.
 use Rattle.std.proofs.Common.{◌≡◌, ℕ, ◌-◌, ◌≤◌, arith, List, [], ◌∷◌, ◌++◌, length, take, drop, refl, ap, sym, ◌∙◌}
 use Rattle.std.proofs.lemmas.List.{length-drop, take_all}
-use Rattle.ba_xml_reader.specs.Machine.{run, reading_after}
+use Rattle.ba_xml_reader.specs.inside.Machine.{run, reading_after}
 use Rattle.ba_xml_words.specs.declared.faults.Reason.{Reason}
 use Rattle.ba_xml_reader.specs.inside.Readings.{Reading, Refused}
 

@@ -4,7 +4,7 @@ use Rattle.ba_tree.specs.declared.trees.Tree.{Tree}
 use Rattle.ba_xml_reader.proofs.SoundDocuments.{IsReadTo, top, Headed, IsDocumentOf, document_read}
 use Rattle.ba_xml_reader.proofs.SoundBack.{back}
 use Rattle.ba_xml_reader.proofs.CompleteCharacters.{octets}
-use Rattle.ba_xml_reader.specs.Machine.{start, run, ended_at, finished, answer_by, answer_of, xml_answer}
+use Rattle.ba_xml_reader.specs.inside.Machine.{start, run, ended_at, finished, answer_by, answer_of, xml_answer}
 use Rattle.ba_xml_grammar.specs.GrammarTexts.{lines}
 use Rattle.ba_xml_reader.specs.inside.Readings.{Reading}
 use Rattle.ba_xml_reader.specs.inside.Readings as reading

@@ -5,7 +5,7 @@ use Rattle.ba_xml_reader.proofs.CompleteCharacters.{octets}
 use Rattle.ba_xml_reader.proofs.Dead.{run_refused}
 use Rattle.ba_xml_reader.proofs.CompleteLayers.{run_none, run_one, line_step, scanned}
 use Rattle.ba_xml_reader.proofs.CompleteSteps.{steps, none}
-use Rattle.ba_xml_reader.specs.Machine.{start, run, unless_returned, turned_by, turned_from, counted, reason_at}
+use Rattle.ba_xml_reader.specs.inside.Machine.{start, run, unless_returned, turned_by, turned_from, counted, reason_at}
 use Rattle.ba_xml_words.specs.inside.Octets.{octet_after}
 use Rattle.ba_xml_grammar.specs.GrammarTexts.{lines}
 use Rattle.ba_xml_words.specs.declared.faults.Reason.{Reason}

@@ -13,7 +13,7 @@ use Rattle.ba_xml_words.proofs.SoundWords.{LeftOf, word_left}
 use Rattle.ba_xml_words.specs.Classes.{class_of}
 use Rattle.ba_xml_words.specs.inside.Headings.{item_text, setting_text, first_setting, spelling, setting_at_first, setting_by, target_by, begun_by, item_begun, blank_after, later_item, next_item, behind_after, word_by, equals_after, quote_after, said_by, said_all_after, closed_after, heading_after}
 use Rattle.ba_xml_reader.specs.inside.Content.{declaring_by}
-use Rattle.ba_xml_reader.specs.Machine.{document, ended_at}
+use Rattle.ba_xml_reader.specs.inside.Machine.{document, ended_at}
 use Rattle.ba_xml_words.specs.inside.Words.{reached_at}
 use Rattle.ba_xml_grammar.specs.GrammarWords.{IsWhite, IsQuote}
 use Rattle.ba_xml_words.specs.declared.classes.Class.{Class}

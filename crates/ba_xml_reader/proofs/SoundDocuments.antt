@@ -12,7 +12,7 @@ use Rattle.ba_xml_reader.proofs.CompletePieces.{content_after}
 use Rattle.ba_xml_reader.proofs.CompleteSteps.{steps, none, go}
 use Rattle.ba_xml_words.specs.Classes.{class_of}
 use Rattle.ba_xml_reader.specs.inside.Content.{begin_after, wanted_after, first_after, first_open_after, open_after}
-use Rattle.ba_xml_reader.specs.Machine.{document, act_by, root_of, child_by, ended_at}
+use Rattle.ba_xml_reader.specs.inside.Machine.{document, act_by, root_of, child_by, ended_at}
 use Rattle.ba_xml_names.specs.Namespaces.{first_scope}
 use Rattle.ba_xml_grammar.specs.Grammar.{Pieces, nothing, empty, element, Head, no_head, Document, written_mark, written_heading, written_misc, written_document, meaning, IsRoot, IsHeading, IsDocument, Small}
 use Rattle.ba_xml_grammar.specs.GrammarTexts.{Means}

@@ -8,7 +8,7 @@ use Rattle.ba_xml_reader.proofs.SoundPieces.{IsGood, IsRootOf, Outside, Follows,
 use Rattle.ba_xml_reader.proofs.SoundTags.{LeadsInTag, are_pairs}
 use Rattle.ba_xml_reader.proofs.CompletePieces.{law}
 use Rattle.ba_xml_names.specs.inside.Levels.{settled, with_child, child_level, empty_tree, text_item}
-use Rattle.ba_xml_reader.specs.Machine.{root_of}
+use Rattle.ba_xml_reader.specs.inside.Machine.{root_of}
 use Rattle.ba_xml_words.specs.inside.Names.{spelled, one_letter}
 use Rattle.ba_xml_names.specs.Namespaces.{opening, scope}
 use Rattle.ba_xml_grammar.specs.Grammar.{Start, Pieces, nothing, empty, element, Misc, written, written_misc, written_pairs, written_tag, tag, or_nothing, meant, element_tree, meaning, IsMisc, Small, IsStart}

@@ -10,7 +10,7 @@ use Rattle.ba_xml_reader.proofs.CompletePieces.{holding, content_after, text_aft
 use Rattle.ba_xml_reader.proofs.CompleteReferences.{refers}
 use Rattle.ba_xml_words.specs.Classes.{is_space}
 use Rattle.ba_xml_names.specs.inside.Levels.{with_child, tree_of, put, put_all}
-use Rattle.ba_xml_reader.specs.Machine.{root_of}
+use Rattle.ba_xml_reader.specs.inside.Machine.{root_of}
 use Rattle.ba_xml_names.specs.Namespaces.{scope}
 use Rattle.ba_xml_grammar.specs.Grammar.{Pieces, nothing, character, reference, section, comment, Misc, misc_space, misc_comment, written, written_misc, row, Allowed, IsMisc, IsRoot, Resolves, Small}
 use Rattle.ba_xml_grammar.specs.GrammarWords.{Nowhere, Differ, IsWhite, is_character, reference_text, character_of}

@@ -13,7 +13,7 @@ use Rattle.ba_xml_reader.proofs.CompleteSteps.{steps, none, one}
 use Rattle.ba_xml_words.specs.Classes.{class_of}
 use Rattle.ba_xml_reader.specs.inside.Content.{open_after, starting_at, below, ending_at, inside_at, inside_after, outside_after, exclaimed_after, section_at, hyphened_after}
 use Rattle.ba_xml_names.specs.inside.Levels.{place_of, place_outside}
-use Rattle.ba_xml_reader.specs.Machine.{root_of, act, state_after, ended_at}
+use Rattle.ba_xml_reader.specs.inside.Machine.{root_of, act, state_after, ended_at}
 use Rattle.ba_xml_words.specs.inside.Names.{one_letter}
 use Rattle.ba_xml_reader.specs.inside.Tags.{end_name_by, end_name_after, end_space_after, closed, slashed_after}
 use Rattle.ba_xml_grammar.specs.Grammar.{misc_end}

@@ -6,7 +6,7 @@ use Rattle.std.proofs.Math.Seq.{take-add}
 use Rattle.ba_xml_words.specs.Classes.{class_of, mark_of}
 use Rattle.ba_xml_words.specs.inside.Names.{one_letter}
 use Rattle.ba_xml_words.specs.inside.Octets.{lead}
-use Rattle.ba_xml_reader.specs.Machine.{run, turned}
+use Rattle.ba_xml_reader.specs.inside.Machine.{run, turned}
 use Rattle.ba_xml_reader.specs.inside.Beginnings.{IsBeginning, has_level_at, plain_tag, with_beginning}
 use Rattle.ba_xml_reader.specs.inside.Escapes.{is_in_text}
 use Rattle.ba_xml_reader.specs.inside.Pairs.{plain_name}

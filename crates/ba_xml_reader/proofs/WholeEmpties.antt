@@ -5,7 +5,7 @@ use Rattle.ba_xml_words.specs.Classes.{class_of, mark_of}
 use Rattle.ba_xml_words.specs.inside.Octets.{lead}
 use Rattle.ba_xml_names.specs.Namespaces.{opening, scope}
 use Rattle.ba_xml_names.specs.inside.Levels.{settled, with_child, empty_tree}
-use Rattle.ba_xml_reader.specs.Machine.{run, reading_after, counted, reading_at, state_after, turned}
+use Rattle.ba_xml_reader.specs.inside.Machine.{run, reading_after, counted, reading_at, state_after, turned}
 use Rattle.ba_xml_reader.specs.inside.Empties.{emptied, is_in_tag, two_on, with_empty}
 use Rattle.ba_xml_reader.specs.inside.Readings.{Refused, Going}
 use Rattle.ba_xml_reader.specs.inside.Tags.{slashed_at}

@@ -7,7 +7,7 @@ use Rattle.ba_xml_words.specs.Classes.{class_of, mark_of}
 use Rattle.ba_xml_words.specs.inside.Octets.{lead}
 use Rattle.ba_xml_words.specs.inside.Remaining.{is_front}
 use Rattle.ba_xml_names.specs.inside.Levels.{with_child, tree_of}
-use Rattle.ba_xml_reader.specs.Machine.{run, turned}
+use Rattle.ba_xml_reader.specs.inside.Machine.{run, turned}
 use Rattle.ba_xml_reader.specs.inside.Endings.{IsEnding, spelled_at, with_ending}
 use Rattle.ba_xml_reader.specs.inside.Escapes.{is_in_text}
 use Rattle.ba_xml_reader.specs.inside.Readings.{Going}

@@ -4,7 +4,7 @@ use Rattle.ba_xml_words.specs.Classes.{class_of, mark_of}
 use Rattle.ba_xml_words.specs.inside.Octets.{lead}
 use Rattle.ba_xml_words.specs.inside.References.{referred}
 use Rattle.ba_xml_names.specs.inside.Levels.{put}
-use Rattle.ba_xml_reader.specs.Machine.{run, turned}
+use Rattle.ba_xml_reader.specs.inside.Machine.{run, turned}
 use Rattle.ba_xml_reader.specs.inside.Content.{reference_by}
 use Rattle.ba_xml_reader.specs.inside.Escapes.{escape_text, escaped, is_in_text, with_meant}
 use Rattle.ba_xml_reader.specs.inside.Readings.{Reading, Going}

@@ -8,7 +8,7 @@ use Rattle.ba_xml_words.specs.Classes.{class_of, mark_of}
 use Rattle.ba_xml_words.specs.inside.Names.{one_letter, is_written}
 use Rattle.ba_xml_words.specs.inside.Octets.{lead}
 use Rattle.ba_xml_names.specs.inside.Tags.{with_attribute}
-use Rattle.ba_xml_reader.specs.Machine.{run, state_after, turned}
+use Rattle.ba_xml_reader.specs.inside.Machine.{run, state_after, turned}
 use Rattle.ba_xml_reader.specs.inside.Pairs.{IsPair, plain_name, plain_attribute, waiting, has_room, with_pair}
 use Rattle.ba_xml_reader.specs.inside.Readings.{Going}
 use Rattle.ba_xml_reader.specs.inside.Spans.{is_plain, is_letter}

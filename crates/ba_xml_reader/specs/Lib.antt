@@ -1,3 +1,2 @@
 pub mod Fitness
 pub mod inside
-pub mod Machine

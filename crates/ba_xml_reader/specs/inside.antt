@@ -3,6 +3,7 @@ pub mod Content
 pub mod Empties
 pub mod Endings
 pub mod Escapes
+pub mod Machine
 pub mod Pairs
 pub mod Readings
 pub mod Spans

@@ -1,7 +1,7 @@
 //! Ends of the tags of empty elements, `/>`, that are taken at once.
 ghost use Rattle.std.specs.Prelude.{◌≡◌, ◌≤◌, ◌+◌, ◌∷◌, true, length, take, codes, IfSome, IfOk, OnOk};
 ghost use Rattle.ba_xml_names.specs.Namespaces.{opening, scope};
-ghost use Rattle.ba_xml_reader.specs.Machine.{reading_at};
+ghost use Rattle.ba_xml_reader.specs.inside.Machine.{reading_at};
 ghost use Rattle.ba_xml_reader.specs.inside.Empties.{emptied, is_in_tag, is_in_tag_at, is_in_tag_in, with_empty, with_empty_at, with_empty_in};
 ghost use Rattle.ba_xml_reader.specs.inside.States.{stands};
 

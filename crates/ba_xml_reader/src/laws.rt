@@ -4,7 +4,7 @@ ghost use Rattle.ba_tree.specs.Trees.{is_fit_tree};
 ghost use Rattle.ba_tree.specs.declared.trees.Tree.{Tree};
 ghost use Rattle.ba_xml_grammar.specs.GrammarTexts.{IsXmlText, CanContinue};
 ghost use Rattle.ba_xml_reader.specs.Fitness.{IsWithinLimits};
-ghost use Rattle.ba_xml_reader.specs.Machine.{xml_answer};
+ghost use Rattle.ba_xml_reader.specs.inside.Machine.{xml_answer};
 ghost use Rattle.ba_xml_words.specs.declared.faults.Reason.{Reason};
 ghost use Rattle.ba_xml_words.specs.declared.faults.XmlFault.{XmlFault};
 ghost use Rattle.ba_xml_words.specs.declared.faults.XmlFault.TheVariants as fault;

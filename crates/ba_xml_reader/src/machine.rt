@@ -1,6 +1,6 @@
 //! One byte of a text after another.
 ghost use Rattle.std.specs.Prelude.{◌≡◌, ◌+◌, Some, IfOk, OnOk};
-ghost use Rattle.ba_xml_reader.specs.Machine.{reading_at, start, act_by, state_after, unless_returned, line_end, turned, turned_as, refusal_in, counted, ended, reason_at, finished, root_of, child_of};
+ghost use Rattle.ba_xml_reader.specs.inside.Machine.{reading_at, start, act_by, state_after, unless_returned, line_end, turned, turned_as, refusal_in, counted, ended, reason_at, finished, root_of, child_of};
 ghost use Rattle.ba_xml_reader.specs.inside.States.{stands};
 
 use crate::content::{
@@ -143,7 +143,7 @@ fn end_of_line(b: u8) -> u8
 }
 
 // Takes a byte behind the ends of lines.
-#[tactic(auto, unfolding(crate::specs::Machine::state_after))]
+#[tactic(auto, unfolding(crate::specs::inside::Machine::state_after))]
 fn advance(alloc: Global, state: &mut State, b: u8) -> Result<(), Memory>
     ensures { OnOk result (state.new ≡ state_after state.old b) }
 {

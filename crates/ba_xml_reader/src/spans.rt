@@ -1,7 +1,7 @@
 //! Runs of bytes that are taken at once: those that are put on as they stand, and those of an end tag's name.
 ghost use Rattle.std.specs.Prelude.{◌≡◌, ◌≤◌, ◌<◌, ◌+◌, ◌-◌, true, length, take, List as Items, IfOk, OnOk};
 ghost use Rattle.std.specs.List.{list_all};
-ghost use Rattle.ba_xml_reader.specs.Machine.{run, reading_at};
+ghost use Rattle.ba_xml_reader.specs.inside.Machine.{run, reading_at};
 ghost use Rattle.ba_xml_reader.specs.inside.Readings.{Going};
 ghost use Rattle.ba_xml_words.specs.inside.Remaining.{is_front};
 ghost use Rattle.ba_xml_reader.specs.inside.Spans.{is_plain, is_letter, is_put, is_run, is_run_at, is_run_in, puts_in, puts_inside, with_span, with_span_at, with_span_in};

@@ -1,10 +1,9 @@
--- Inside: how far a reader has come. `new` and `feed` say which bytes a reader was fed; what that is within it no other clause says.
+-- Inside: how far a reader has come.
 use Rattle.std.specs.Prelude.{◌≡◌, ℕ, Result, Ok, Err, List}
 use Rattle.ba_tree.specs.declared.trees.Tree.{Tree}
 use Rattle.ba_xml.specs.declared.readers.Progress.{Progress}
 use Rattle.ba_xml.specs.declared.readers.Progress.TheVariants.{Reads, Faulted, Starved}
-use Rattle.ba_xml.specs.declared.readers.Reader.{Reader}
-use Rattle.ba_xml_reader.specs.Machine.{start, run, answer_of}
+use Rattle.ba_xml_reader.specs.inside.Machine.{start, run, answer_of}
 use Rattle.ba_xml_reader.specs.inside.Readings.{Reading, Refused, Going}
 use Rattle.ba_xml_words.specs.declared.faults.XmlFault.{XmlFault}
 use Rattle.ba_xml_words.specs.declared.faults.XmlFault.TheVariants as fault
@@ -25,14 +24,6 @@ abbrev pub IsProgressOf : List ℕ → Progress → Type 0
 IsProgressOf bytes (Reads scan taken) = run (Going start 0) bytes ≡ Going scan taken
 IsProgressOf bytes (Faulted why place) = run (Going start 0) bytes ≡ Refused why place
 IsProgressOf bytes Starved = ⊥
-
--- the reader was fed these bytes, and memory was never wanting
-abbrev pub IsFed : Reader → List ℕ → Type 0
-IsFed reader bytes = IsProgressOf bytes reader.progress
-
--- memory was wanting
-abbrev pub IsStarved : Reader → Type 0
-IsStarved reader = reader.progress ≡ Starved
 
 -- what is told so far
 abbrev pub told_by : Progress → Result (Unit {0}) XmlFault

@@ -1,5 +1,5 @@
 use Rattle.std.proofs.Common.{◌+◌, ◌≤◌, ap, sym, ◌∙◌, arith}
-use Rattle.ba_xml_reader.specs.Machine.{reading_at}
+use Rattle.ba_xml_reader.specs.inside.Machine.{reading_at}
 use Rattle.ba_xml.proofs.Pieces.{goes_on, stops, ends, taken_few}
 use Rattle.ba_xml.proofs.readers.read_piece.Goals as goal
 

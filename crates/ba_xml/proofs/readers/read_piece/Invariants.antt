@@ -1,5 +1,5 @@
 use Rattle.std.proofs.Common.{◌≡◌, ◌≤◌, ◌-◌, drop, length}
-use Rattle.ba_xml_reader.specs.Machine.{run}
+use Rattle.ba_xml_reader.specs.inside.Machine.{run}
 use Rattle.ba_xml_reader.specs.inside.Readings.{Going}
 use Rattle.ba_xml.proofs.readers.read_piece.Given as goal
 

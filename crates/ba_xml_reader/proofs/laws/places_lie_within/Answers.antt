@@ -1,5 +1,5 @@
 use Rattle.std.proofs.Common.{◌≡◌, ◌≤◌, ◌+◌, length, arith}
-use Rattle.ba_xml_reader.specs.Machine.{run, start}
+use Rattle.ba_xml_reader.specs.inside.Machine.{run, start}
 use Rattle.ba_xml_reader.specs.inside.Readings.{Going}
 use Rattle.ba_xml_reader.proofs.Kept.{told, text_within, place_within}
 use Rattle.ba_xml_reader.proofs.laws.places_lie_within.Goals as goal

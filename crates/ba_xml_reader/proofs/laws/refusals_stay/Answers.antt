@@ -1,5 +1,5 @@
 use Rattle.std.proofs.Common.{ap, ◌∙◌}
-use Rattle.ba_xml_reader.specs.Machine.{answer_of, run, start}
+use Rattle.ba_xml_reader.specs.inside.Machine.{answer_of, run, start}
 use Rattle.ba_xml_reader.specs.inside.Readings.{Going}
 use Rattle.ba_xml_reader.proofs.Kept.{stays}
 use Rattle.ba_xml_reader.proofs.Runs.{run_append}

@@ -1,6 +1,6 @@
 use Rattle.std.proofs.Common.{ap, sym, ◌∙◌}
 use Rattle.ba_xml_reader.proofs.Runs.{run_none}
-use Rattle.ba_xml_reader.specs.Machine.{start}
+use Rattle.ba_xml_reader.specs.inside.Machine.{start}
 use Rattle.ba_xml_reader.specs.inside.Readings.{Going}
 use Rattle.ba_xml.proofs.readers.Reader.new.Goals as goal
 

@@ -1,6 +1,6 @@
 use Rattle.std.proofs.Common.{◌≡◌, ◌+◌, take, subst, arith}
 use Rattle.std.specs.Prelude.{IfOk}
-use Rattle.ba_xml_reader.specs.Machine.{run, reading_at}
+use Rattle.ba_xml_reader.specs.inside.Machine.{run, reading_at}
 use Rattle.ba_xml_reader.specs.inside.Readings.{Going}
 use Rattle.ba_xml_reader.proofs.machine.Scan.read_piece.Goals as goal
 

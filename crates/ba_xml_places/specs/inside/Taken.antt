@@ -1,6 +1,6 @@
--- Believe: which bytes the machine takes, each of them.
+-- Inside: which bytes the machine takes, each of them.
 use Rattle.std.specs.Prelude.{◌≡◌, ℕ, List}
-use Rattle.ba_xml_reader.specs.Machine.{run, start}
+use Rattle.ba_xml_reader.specs.inside.Machine.{run, start}
 use Rattle.ba_xml_reader.specs.declared.machine.Scan.{Scan}
 use Rattle.ba_xml_reader.specs.inside.Readings.{Going}
 
