@@ -119,7 +119,15 @@ module _ (start : NodeState) (all : List Record) (ranges : AllByRecursion InRang
       ap (slice_get (own start ∷ all)) at ∙ ap (λ (rs : List Record). slice_get rs (length front)) list
       ∙ slice_get_read (front ++ r ∷ more) (length (front ++ r ∷ more)) (length front) r refl
       (omega (arith, length-append front (r ∷ more))) (sym (get_or-append_seam front r more r)) in
-      inr (all, refl, (n, r, subst (λ (rs : List Record). Replays rs n) (sym taken) g.replays, got, none))
+      let broken : BreaksAt (own start ∷ all) (place + 1) = record {
+        in_range = ranges;
+        few = few;
+        before = n;
+        replays = subst (λ (rs : List Record). Replays rs n) (sym taken) g.replays;
+        next = r;
+        stands = got;
+        no_step = none;
+      } in inr (all, refl, broken)
 
   pub all_enacted : (place : ℕ) (n : NodeState) → Going start all [] place n
       → IsReplay start.number start.base (journal.Node start.number start.base ∷ all) n

@@ -4,5 +4,7 @@ pub mod Histories
 pub mod Moments
 pub mod Openings
 pub mod Openness
+pub mod OwnRecords
+pub mod Posting
 pub mod Sendable
 pub mod Told

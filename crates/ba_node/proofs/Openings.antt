@@ -16,8 +16,7 @@ use Rattle.ba_journal.specs.declared.readings.Reading.TheVariants.{Fresh, Found}
 use Rattle.ba_journal.proofs.Turns.{in_turn_on, in_turn_stopped, counted_on, AreCounted, all_counted}
 use Rattle.ba_journal.proofs.Loadings.{turn_ends_failed}
 use Rattle.ba_journal.proofs.Looking.{ends_failed_on}
-use Rattle.ba_journal.proofs.Meanings.{one_list, never_both}
-use Rattle.ba_node.specs.Loading.{MayBeginSince, Opened, RefusesLoad, beginning, begun, gate_read, load_fault_of, opening}
+use Rattle.ba_node.specs.Loading.{MayBeginSince, Opened, RefusesFile, RefusesLoad, beginning, begun, gate_read, load_fault_of, opening}
 use Rattle.ba_node.specs.inside.Beginnings.{Begun}
 use Rattle.ba_journal.specs.Readings.{records_found}
 use Rattle.ba_node.specs.declared.faults.LoadFault.{LoadFault}
@@ -36,14 +35,14 @@ replay_begun gate number base r rs (Err (fault.BadHistory n)) other = refl
 
 -- the journal wasn't loaded
 
-pub unread : (number : ℕ) (base file : List ℕ) (why : JournalFault) (records : List Record)
+pub unread : (number : ℕ) (base file : List ℕ) (why : JournalFault)
     → ((place : ℕ) → why ≡ journal_fault.NotAJournal place → IsNoJournal file place)
-    → StandsFor file records → RefusesLoad number base records (load_fault_of why)
-unread number base file journal_fault.Memory records none stands = tt
-unread number base file journal_fault.Disk records none stands = tt
-unread number base file (journal_fault.NotAJournal place) records none stands = never_both file records place (none place refl) stands
-unread number base file journal_fault.Full records none stands = tt
-unread number base file (journal_fault.Closed count) records none stands = tt
+    → RefusesFile number base file (load_fault_of why)
+unread number base file journal_fault.Memory none = tt
+unread number base file journal_fault.Disk none = tt
+unread number base file (journal_fault.NotAJournal place) none = none place refl
+unread number base file journal_fault.Full none = tt
+unread number base file (journal_fault.Closed count) none = tt
 
 pub since_alike : (number : ℕ) (base : List ℕ) (before : List ℕ → Type 0) (c : List ℕ) → MayStandSince before c
     → MayBeginSince number base before c
@@ -64,7 +63,7 @@ unread_calls T S IsRead IsOpened number base journal_fault.Disk calls (ends, inr
         (counted calls) turn,
   ),
 )
-unread_calls T S IsRead IsOpened number base (journal_fault.NotAJournal place) calls made = inl made
+unread_calls T S IsRead IsOpened number base (journal_fault.NotAJournal place) calls made = made
 unread_calls T S IsRead IsOpened number base journal_fault.Full calls made = absurd made
 unread_calls T S IsRead IsOpened number base (journal_fault.Closed count) calls made = absurd made
 
@@ -130,28 +129,33 @@ alone requests first second none turn =
 pub refused_calls : (T S : Type 0) (IsRead : Reading → Type 0) (number gate : ℕ) (base : List ℕ) (records : List Record)
     (first second : List Call) (why : LoadFault)
     → ((found : Reading) × IsRead found × IsOpenedAs gate records found × InTurn (Sync ∷ settling found) false (counted first))
-    → Begun {T = T} gate number base records (Err why) second → Opened {T = S} IsRead number base (Err why) (first ++ second)
-refused_calls T S IsRead number gate base records first second fault.Disk (found, read, is, turn) behind = (
+    → Begun {T = T} gate number base records (Err why) second → RefusesLoad number base records why
+    → Opened {T = S} IsRead number base (Err why) (first ++ second)
+refused_calls T S IsRead number gate base records first second fault.Disk (found, read, is, turn) behind refused = (
   ends_failed_on first second (turn_ends_failed (beginning gate number base records) second behind),
   inr
       (found, read, opened_turn number gate base records found true first second is turn behind),
 )
-refused_calls T S IsRead number gate base records first second fault.Memory (found, read, is, turn) behind =
+refused_calls T S IsRead number gate base records first second fault.Memory (found, read, is, turn) behind refused =
     inr (found, read, alone (Sync ∷ settling found) first second behind turn)
-refused_calls T S IsRead number gate base records first second (fault.NotAJournal place) (found, read, is, turn) behind =
-    inr (found, read, alone (Sync ∷ settling found) first second behind turn)
-refused_calls T S IsRead number gate base records first second (fault.OtherNode n) (found, read, is, turn) behind =
-    inr (found, read, alone (Sync ∷ settling found) first second behind turn)
-refused_calls T S IsRead number gate base records first second fault.OtherBase (found, read, is, turn) behind =
-    inr (found, read, alone (Sync ∷ settling found) first second behind turn)
-refused_calls T S IsRead number gate base records first second (fault.BadHistory n) (found, read, is, turn) behind =
-    inr (found, read, alone (Sync ∷ settling found) first second behind turn)
+refused_calls T S IsRead number gate base records first second (fault.NotAJournal place) (found, read, is, turn) behind refused =
+    absurd refused
+refused_calls T S IsRead number gate base records first second (fault.OtherNode n) (found, read, is, turn) behind refused =
+    (found, read, alone (Sync ∷ settling found) first second behind turn)
+refused_calls T S IsRead number gate base records first second fault.OtherBase (found, read, is, turn) behind refused =
+    (found, read, alone (Sync ∷ settling found) first second behind turn)
+refused_calls T S IsRead number gate base records first second (fault.BadHistory n) (found, read, is, turn) behind refused =
+    (found, read, alone (Sync ∷ settling found) first second behind turn)
 
-pub refused_all : (number : ℕ) (base file : List ℕ) (loaded records : List Record) (why : LoadFault) → StandsFor file loaded
-    → StandsFor file records
-    → RefusesLoad number base loaded why → RefusesLoad number base records why
-refused_all number base file loaded records why stands also is = subst (λ (rs : List Record). RefusesLoad number base rs why)
-    (one_list file loaded records stands also) is
+-- a file that was loaded gives the ground
+pub refused_all : (number : ℕ) (base file : List ℕ) (records : List Record) (why : LoadFault) → StandsFor file records
+    → RefusesLoad number base records why → RefusesFile number base file why
+refused_all number base file records fault.Memory stands refused = tt
+refused_all number base file records fault.Disk stands refused = tt
+refused_all number base file records (fault.NotAJournal place) stands refused = absurd refused
+refused_all number base file records (fault.OtherNode other) stands refused = (records, stands, refused)
+refused_all number base file records fault.OtherBase stands refused = (records, stands, refused)
+refused_all number base file records (fault.BadHistory place) stands refused = (records, stands, refused)
 
 pub empty : (rs : List Record) → length rs ≡ 0 → rs ≡ []
 empty [] is = refl

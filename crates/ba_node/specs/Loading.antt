@@ -1,6 +1,7 @@
 -- Believe: what a loading of a node finds, which calls of the disk it makes, and what a crash during it may leave.
 use Rattle.std.specs.Prelude.{◌≡◌, ◌≢◌, ◌⊎◌, ℕ, Bool, true, false, List, [], ◌∷◌, ◌++◌, None, Some, Result, Ok, Err, slice_get, take}
-use Rattle.ba_journal.specs.Frames.{StandsFor}
+use Rattle.std.specs.List.{AllByRecursion}
+use Rattle.ba_journal.specs.Frames.{IsNoJournal, StandsFor}
 use Rattle.ba_journal.specs.Journals.{appending, behind_gate}
 use Rattle.ba_journal.specs.Loads.{EndsFailed, settling}
 use Rattle.ba_journal.specs.Readings.{records_found}
@@ -16,10 +17,10 @@ use Rattle.ba_ports.specs.Disk.{InTurn, counted}
 use Rattle.ba_ports.specs.declared.requests.Call.{Call}
 use Rattle.ba_ports.specs.declared.requests.Request.{Request}
 use Rattle.ba_ports.specs.declared.requests.Request.TheVariants.{Sync}
-use Rattle.ba_record.specs.Coding.{coding}
+use Rattle.ba_record.specs.Coding.{InRange, coding}
 use Rattle.ba_record.specs.declared.records.Record.{Record}
 use Rattle.ba_record.specs.declared.records.Record.TheVariants as journal
-use Rattle.ba_steps.specs.Lawful.{Replays, after_record}
+use Rattle.ba_steps.specs.Lawful.{AreFew, Replays, after_record}
 use Rattle.ba_steps.specs.Node.{NodeState}
 
 -- ---- the node's own record
@@ -37,10 +38,16 @@ BeginsOtherwise [] = ⊥
 BeginsOtherwise (journal.Node number base ∷ more) = ⊥
 BeginsOtherwise (r ∷ more) = Unit {0}
 
--- those before this place have a replay, at which no step keeps the record at this place
-abbrev pub BreaksAt : List Record → ℕ → Type 0
-BreaksAt records place =
-    (n : NodeState) × (r : Record) × Replays (take place records) n × (slice_get records place ≡ Some r) × (after_record n r ≡ None)
+-- Those before this place have a replay, at which no step keeps the record at this place. All are in their ranges and few enough
+-- that counters don't run out, so that there is one such place at most.
+pub record BreaksAt (records : List Record) (place : ℕ) : Type 0 where
+  pub in_range : AllByRecursion InRange records
+  pub few : AreFew records
+  pub before : NodeState
+  pub replays : Replays (take place records) before
+  pub next : Record
+  pub stands : slice_get records place ≡ Some next
+  pub no_step : after_record before next ≡ None
 
 -- The records aren't those of the node with this number and base. The place of a bad history is a number of a record,
 -- from 0. Want of memory, and a disk that failed, say nothing.
@@ -54,6 +61,14 @@ RefusesLoad number base records fault.OtherBase =
     (name : List ℕ) × (more : List Record) × (records ≡ journal.Node number name ∷ more) × (name ≢ base)
 RefusesLoad number base records (fault.BadHistory place) = ((place ≡ 0) × BeginsOtherwise records)
     ⊎ ((more : List Record) × (records ≡ journal.Node number base ∷ more) × BreaksAt records place)
+
+-- The file gives the ground of each answer: it is no journal's at this place, or it stands for records that aren't this node's. Want
+-- of memory, and a disk that failed, say nothing of it.
+abbrev pub RefusesFile : ℕ → List ℕ → List ℕ → LoadFault → Type 0
+RefusesFile number base file fault.Memory = Unit {0}
+RefusesFile number base file fault.Disk = Unit {0}
+RefusesFile number base file (fault.NotAJournal place) = IsNoJournal file place
+RefusesFile number base file why = (records : List Record) × StandsFor file records × RefusesLoad number base records why
 
 -- what a fault of the journal's loading is of the node's; two of them don't come
 abbrev pub load_fault_of : JournalFault → LoadFault
@@ -78,14 +93,17 @@ beginning gate number base (r ∷ more) = []
 abbrev pub opening : ℕ → List ℕ → Reading → List Request
 opening number base found = (Sync ∷ settling found) ++ beginning (gate_read found) number base (records_found found)
 
--- The counted calls of a loading by its answer. At Disk the last call failed.
+-- The counted calls of a loading by its answer. At Disk the last call failed. A file that is no journal's is left as it was; the
+-- records were read, and the journal made or its end repaired, before the node finds that they aren't its own.
 abbrev pub Opened : {T : Type 0} → (Reading → Type 0) → ℕ → List ℕ → Result T LoadFault → List Call → Type 0
 Opened IsRead number base (Ok done) calls = (found : Reading) × IsRead found × InTurn (opening number base found) false (counted calls)
 Opened IsRead number base (Err fault.Disk) calls = EndsFailed calls
     × (((failed : Bool) × InTurn (Sync ∷ []) failed (counted calls))
     ⊎ ((found : Reading) × IsRead found × InTurn (opening number base found) true (counted calls)))
-Opened IsRead number base (Err why) calls = InTurn (Sync ∷ []) false (counted calls)
+Opened IsRead number base (Err fault.Memory) calls = InTurn (Sync ∷ []) false (counted calls)
     ⊎ ((found : Reading) × IsRead found × InTurn (Sync ∷ settling found) false (counted calls))
+Opened IsRead number base (Err (fault.NotAJournal place)) calls = InTurn (Sync ∷ []) false (counted calls)
+Opened IsRead number base (Err why) calls = (found : Reading) × IsRead found × InTurn (Sync ∷ settling found) false (counted calls)
 
 -- the disk, after a loading, and its answer without the disk
 abbrev pub disk_after_load : {D : Type 0} → Result (NodeOnJournal D) (D × LoadFault) → D

@@ -5,10 +5,15 @@ mod beginning;
 mod committing;
 mod faults;
 mod keeping;
+mod laws;
 mod loading;
 mod nodes;
 mod replaying;
 mod taking;
 
 pub use faults::{LoadFault, NodeFault};
+pub use laws::{
+    a_file_tells_why_it_is_refused, a_history_breaks_at_one_place,
+    a_node_stays_the_replay_of_its_records, never_refused,
+};
 pub use nodes::Node;

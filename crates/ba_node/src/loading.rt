@@ -4,7 +4,7 @@ ghost use Rattle.std.specs.List.{AllByRecursion};
 ghost use Rattle.ba_journal.specs.Frames.{StandsFor};
 ghost use Rattle.ba_journal.specs.Journals.{IsSettled};
 ghost use Rattle.ba_journal.specs.Readings.{ReadsAs};
-ghost use Rattle.ba_node.specs.Loading.{MayBeginSince, Opened, RefusesLoad, begun, disk_after_load, load_answer, load_fault_of};
+ghost use Rattle.ba_node.specs.Loading.{MayBeginSince, Opened, RefusesFile, begun, disk_after_load, load_answer, load_fault_of};
 ghost use Rattle.ba_node.specs.declared.faults.LoadFault.TheVariants as fault;
 ghost use Rattle.ba_ports.specs.Causes.{Rose};
 ghost use Rattle.ba_ports.specs.Disk.{LeavesOnly};
@@ -42,8 +42,7 @@ impl<D: Disk> Node<D> {
         ensures replay { IsTrue (D.follows disk) → IfOk result (λ n. (records : Items Record) × StandsFor (D.seen disk) records
             × Replays (begun number base records) n.node
             × IsSettled D.seen D.may_leave n.disk n.end (begun number base records)) }
-        ensures refused { IsTrue (D.follows disk) → IfErr result (λ refused. (records : Items Record)
-            → StandsFor (D.seen disk) records → RefusesLoad number base records refused.1) }
+        ensures refused { IsTrue (D.follows disk) → IfErr result (λ refused. RefusesFile number base (D.seen disk) refused.1) }
         ensures any_moment { IsTrue (D.follows disk) →
             LeavesOnly D.later D.left_between disk (disk_after_load result) (MayBeginSince number base (D.may_leave disk)) }
 

@@ -1,15 +1,18 @@
 //! A node on its journal.
 ghost use Rattle.std.specs.Prelude.{◌≡◌, ◌≤◌, ℕ, List as Items, Err, IsTrue, IfOk, IfSome, OnOk};
 ghost use Rattle.ba_journal.specs.Journals.{IsSettled};
+ghost use Rattle.ba_message.specs.Letters.{IsPostable};
 ghost use Rattle.ba_node.specs.Answers.{IsAnswered, IsLetterAtTick, IsReplyOf};
 ghost use Rattle.ba_node.specs.Keeping.{StandsWith, Stepped, with_record};
 ghost use Rattle.ba_node.specs.Nodes.{NodeHolds, on_journal};
+ghost use Rattle.ba_node.specs.Posting.{LeavesRoom};
 ghost use Rattle.ba_node.specs.declared.faults.NodeFault.TheVariants as fault;
 ghost use Rattle.ba_ports.specs.Causes.{Rose};
 ghost use Rattle.ba_ports.specs.Disk.{LeavesOnly, fail, stop, nothing};
 ghost use Rattle.ba_ports.specs.declared.requests.Call.{Call};
 ghost use Rattle.ba_record.specs.declared.records.Record.{Record as Kept};
 ghost use Rattle.ba_steps.specs.Endpoints.{GivesFit};
+ghost use Rattle.ba_steps.specs.Fits.{HasSpareCounters, NodeFits};
 ghost use Rattle.ba_steps.specs.Lawful.{change, given, ticked};
 ghost use Rattle.ba_steps.specs.Letters.{IsLetterOf};
 ghost use Rattle.ba_steps.specs.Node.{last};
@@ -95,6 +98,7 @@ impl<D: Disk> Node<D> {
     pub fn tick(&mut self, now: u64, id: Id) -> Result<Ticked, NodeFault>
         ensures letter { IfOk result (IsLetterAtTick (tick_step self.old.node now id)) }
         ensures sendable { IfOk result (λ ticked. IfSome ticked.letter (IsLetterOf self.old.node id)) }
+        ensures postable { LeavesRoom self.old.node.base → IfOk result (λ ticked. IfSome ticked.letter IsPostable) }
         ensures answered { IsAnswered D.faults (change self.old.node (ticked now id)) self.old self.new result }
 
         // What is said of content, over a disk that follows its model.
@@ -128,9 +132,18 @@ impl<D: Disk> Node<D> {
         self.objects.status(id)
     }
 
-    /// The greatest counter in use: each from 1 up to it is that of an object.
+    /// Its number.
+    pub fn number(&self) -> u32
+        ensures { result ≡ self.now.node.number }
+    {
+        self.objects.number()
+    }
+
+    /// The greatest counter in use: each from 1 up to it is that of an object. Two more are always to spare.
     pub fn last(&self) -> u64
-        ensures { result ≡ last self.now.node }
+        ensures value { result ≡ last self.now.node }
+        ensures spare { HasSpareCounters self.now.node }
+        ensures fits { NodeFits self.now.node }
     {
         self.objects.last()
     }

@@ -10,7 +10,7 @@ use Rattle.ba_ports.specs.declared.requests.Call.{Call}
 use Rattle.ba_record.specs.declared.records.Record.{Record}
 use Rattle.ba_node.specs.Nodes.{NodeOnJournal}
 use Rattle.ba_node.specs.declared.faults.LoadFault.{LoadFault}
-use Rattle.ba_node.specs.Loading.{MayBeginSince, Opened, RefusesLoad, beginning, begun}
+use Rattle.ba_node.specs.Loading.{MayBeginSince, Opened, RefusesFile, RefusesLoad, beginning, begun}
 use Rattle.ba_node.proofs.Beginnings.{begun_in_range}
 use Rattle.ba_steps.specs.Lawful.{Replays}
 use Rattle.ba_steps.specs.Node.{NodeState}
@@ -21,9 +21,9 @@ use Rattle.ba_node.proofs.nodes.Node.load.Goals.{After-begin}
 use Rattle.ba_node.proofs.nodes.Node.load.Given.{Over}
 
 pub returns-in-Err-clause-refused : goal.returns-in-Err-clause-refused
-returns-in-Err-clause-refused g c = λ follows records stands.
-    subst (λ (f : LoadFault). RefusesLoad c.args.number c.args.base records f) (sym c.load_fault.ensures)
-    (unread c.args.number c.args.base (g.D.Disk.seen c.args.disk) c.in-Err.why records (c.in-Err.ensures.refused follows) stands)
+returns-in-Err-clause-refused g c = λ follows.
+    subst (λ (f : LoadFault). RefusesFile c.args.number c.args.base (g.D.Disk.seen c.args.disk) f) (sym c.load_fault.ensures)
+    (unread c.args.number c.args.base (g.D.Disk.seen c.args.disk) c.in-Err.why (c.in-Err.ensures.refused follows))
 
 pub returns-in-Err-clause-any_moment : goal.returns-in-Err-clause-any_moment
 returns-in-Err-clause-any_moment g c = λ follows.
@@ -87,9 +87,9 @@ returns-in-Ok-begin-clause-calls g c =
     )
 
 pub returns-in-Err-begin-clause-refused : goal.returns-in-Err-begin-clause-refused
-returns-in-Err-begin-clause-refused g c = λ follows records stands.
-    refused_all c.args.number c.args.base (g.D.Disk.seen c.args.disk) c.in-Ok.records records c.in-Err-begin.why
-    (c.in-Ok.ensures.records follows) stands c.in-Err-begin.ensures.refused
+returns-in-Err-begin-clause-refused g c = λ follows.
+    refused_all c.args.number c.args.base (g.D.Disk.seen c.args.disk) c.in-Ok.records c.in-Err-begin.why
+    (c.in-Ok.ensures.records follows) c.in-Err-begin.ensures.refused
 
 pub returns-in-Err-begin-clause-any_moment : goal.returns-in-Err-begin-clause-any_moment
 returns-in-Err-begin-clause-any_moment g c = λ follows.
@@ -112,7 +112,7 @@ returns-in-Err-begin-clause-calls g c =
       first.0 ++ second.0,
       subst (λ x. D.driven d (first.0 ++ second.0) x) (sym c.into_disk.ensures) all,
       refused_calls NodeInMemory (NodeOnJournal g.row.D.Denot) IsRead c.args.number j.gate c.args.base c.in-Ok.records first.0 second.0
-          why first.2 second.2,
+          why first.2 second.2 c.in-Err-begin.ensures.refused,
     )
 
 pub returns-in-Ok-begin-clause-lawful : goal.returns-in-Ok-begin-clause-lawful
