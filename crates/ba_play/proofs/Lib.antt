@@ -1,3 +1,4 @@
+pub mod AppendStops
 pub mod Arriving
 pub mod Bases
 pub mod Driven
@@ -5,10 +6,13 @@ pub mod EventDisks
 pub mod EventSteps
 pub mod Holding
 pub mod InPlaceLines
+pub mod Leading
 pub mod NodeSteps
 pub mod Openings
 pub mod OwnAddresses
 pub mod Posted
 pub mod Quiet
+pub mod Spent
 pub mod Starts
 pub mod Stories
+pub mod Unhindered

@@ -58,7 +58,7 @@ whole_load : (n : WorldNode) (found : Reading) (made : Bool × MediumValue) → 
 whole_load n found (false, disk) is = refl
 whole_load n found (true, disk) is = absurd (true≢false is)
 
-runs_by : (disk : MediumValue) (stopped : Option Image) → disk.stopped ≡ stopped → disk.armed ≡ None
+pub runs_by : (disk : MediumValue) (stopped : Option Image) → disk.stopped ≡ stopped → disk.armed ≡ None
     → IsUntroubled (running_by stopped disk)
 runs_by disk None is unarmed = record { unarmed = unarmed; running = is }
 runs_by disk (Some image) is unarmed = record { unarmed = unarmed; running = refl }

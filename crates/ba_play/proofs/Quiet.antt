@@ -34,10 +34,10 @@ use Rattle.ba_record.specs.declared.records.Record.{Record}
 
 -- ---- a machine that runs, and on whose disk nothing is pending
 
-record IsQuiet (m : MediumValue) (file : List ℕ) : Type 0 where
-  runs : m.stopped ≡ None
-  none : m.pending ≡ []
-  holds : m.synced ≡ file
+pub record IsQuiet (m : MediumValue) (file : List ℕ) : Type 0 where
+  pub runs : m.stopped ≡ None
+  pub none : m.pending ≡ []
+  pub holds : m.synced ≡ file
 
 -- a call of the run failed, and whatever may be left passes this test
 record Breaks (P : List ℕ → Type 0) (made : Bool × MediumValue) : Type 0 where
@@ -64,17 +64,17 @@ left_changed P m file x one holds torn c left =
     let there : LeftOf (x ∷ []) file c = subst (λ (f : List ℕ). LeftOf (x ∷ []) f c) holds bare in
     subst P (sym there.2) (torn there.0 there.1)
 
-one_more : (changes : List Change) (x : Change) → changes ≡ [] → changes ++ x ∷ [] ≡ x ∷ []
+pub one_more : (changes : List Change) (x : Change) → changes ≡ [] → changes ++ x ∷ [] ≡ x ∷ []
 one_more changes x none = ap (λ (l : List Change). l ++ x ∷ []) none
 
 -- ---- a change, and then a sync
 
 -- the change is asked for by this request
-record Asks (r : Request) (x : Change) : Type 0 where
-  makes : (m : MediumValue) → disks.after r m ≡ noted r m (changed_by (course m) m (issued x m))
-  meets : (m : MediumValue) → fails r m ≡ goes_wrong (course m)
+pub record Asks (r : Request) (x : Change) : Type 0 where
+  pub makes : (m : MediumValue) → disks.after r m ≡ noted r m (changed_by (course m) m (issued x m))
+  pub meets : (m : MediumValue) → fails r m ≡ goes_wrong (course m)
 
-writes : (place : ℕ) (bytes : List ℕ) → Asks (WriteAt place bytes) (change.Write place bytes)
+pub writes : (place : ℕ) (bytes : List ℕ) → Asks (WriteAt place bytes) (change.Write place bytes)
 writes place bytes = record { makes = λ m. refl; meets = λ m. refl }
 
 cuts : (len : ℕ) → Asks (Cut len) (change.Cut len)

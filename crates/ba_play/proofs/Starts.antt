@@ -24,7 +24,7 @@ empty = (holding []).medium
 abbrev made : MediumValue
 made = (run (Sync ∷ making) empty).1
 
-made_well : (run (Sync ∷ making) empty).0 ≡ false
+pub made_well : (run (Sync ∷ making) empty).0 ≡ false
 made_well = runs_well (Sync ∷ making) empty (record { unarmed = refl; running = refl })
 
 made_rests : IsAtRest made []
@@ -32,6 +32,18 @@ made_rests = record { runs = refl; settled = refl; journal = made_at_rest }
 
 made_free : IsUntroubled made
 made_free = record { unarmed = refl; running = refl }
+
+-- the calls of the append of the node's own record, whatever its number
+well_answered : (x : Bool × MediumValue) (disk : MediumValue) → x.0 ≡ false → disk ≡ x.1 → x ≡ (false, disk)
+well_answered (failed, after) disk well same = λ i. (well i, sym same i)
+
+pub start_appends : (k : ℕ) → append_run made (journal.Node k (node_base k)) ≡ (false, disk_at_start k)
+start_appends k =
+    let requests = appending FIRST_GATE (behind_gate (coding (journal.Node k (node_base k)))) in
+    let both : disk_at_start k ≡ (run requests made).1 =
+    ap (λ (x : Bool × MediumValue). x.1) (run_of_both (Sync ∷ making) requests empty)
+    ∙ ap (λ (b : Bool). (unless_failed b made (run requests made)).1) made_well in
+    well_answered (append_run made (journal.Node k (node_base k))) (disk_at_start k) (runs_well requests made made_free) both
 
 -- the node's own record
 module _ (k : ℕ) (from : 1 ≤ k) (small : k < 2 ^ 32) where
@@ -46,14 +58,12 @@ module _ (k : ℕ) (from : 1 ≤ k) (small : k < 2 ^ 32) where
   whole_rests x well (broken failed left) = absurd (true≢false (sym failed ∙ well))
 
   appended_well : appended.0 ≡ false
-  appended_well = runs_well (appending FIRST_GATE (behind_gate (coding own))) made made_free
+  appended_well = ap (λ (x : Bool × MediumValue). x.0) (start_appends k)
 
   start_is : disk_at_start k ≡ appended.1
-  start_is =
-      ap (λ (x : Bool × MediumValue). x.1) (run_of_both (Sync ∷ making) (appending FIRST_GATE (behind_gate (coding own))) empty)
-      ∙ ap (λ (b : Bool). (unless_failed b made (run (appending FIRST_GATE (behind_gate (coding own))) made)).1) made_well
+  start_is = sym (ap (λ (x : Bool × MediumValue). x.1) (start_appends k))
 
-  start_rests : IsAtRest (disk_at_start k) (own ∷ [])
+  pub start_rests : IsAtRest (disk_at_start k) (own ∷ [])
   start_rests =
       subst (λ (m : MediumValue). IsAtRest m (own ∷ [])) (sym start_is)
       (whole_rests appended appended_well (append_keeps made [] own made_rests (base_in_range k from small)))

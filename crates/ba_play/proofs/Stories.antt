@@ -1,10 +1,10 @@
 -- The worlds of a play are a run, each of them is safe, and so is each of its lines; for the law that plays stay safe.
-use Rattle.std.proofs.Common.{◌≡◌, inl, inr, ℕ, suc, ◌+◌, ◌*◌, ◌<◌, ◌≤◌, ◌^◌, Bool, List, [], ◌∷◌, length, Option, None, Some, Ok, Err, refl, sym, ap, subst, arith}
+use Rattle.std.proofs.Common.{◌≡◌, inl, inr, ℕ, suc, ◌+◌, ◌*◌, ◌<◌, ◌≤◌, ◌^◌, Bool, List, [], ◌∷◌, ◌++◌, length, Option, None, Some, Ok, Err, refl, sym, ap, subst, arith}
 use Rattle.std.specs.List.{AllByRecursion}
 use Rattle.std.proofs.lemmas.Bool.Decides.{eqb_tells}
 use Rattle.ba_play.specs.Disks.{DiskFits, HaveSpare}
 use Rattle.ba_play.specs.Plays.{EventEffect, WorldEffect, WorldOnDisks, node_base, play_step, starting_play, world_at_start}
-use Rattle.ba_play.specs.SafeStories.{IsInPlace, IsSafeStory, OutcomesAreRecorded, RunIsRecorded}
+use Rattle.ba_play.specs.SafeStories.{ClosesWhatCompleted, IsInPlace, IsSafeStory, OutcomesAreRecorded, RunClosesWhatCompleted, RunIsRecorded}
 use Rattle.ba_play.specs.Posting.{CanPost}
 use Rattle.ba_play.specs.Shows.{Halt, NumberedEvent, Story, story, story_by, story_from}
 use Rattle.ba_play.proofs.Bases.{base_in_range}
@@ -12,11 +12,12 @@ use Rattle.ba_play.proofs.EventDisks.{AllFit}
 use Rattle.ba_play.proofs.EventSteps.{GoesWell, steps_in_run}
 use Rattle.ba_play.proofs.Posted.{start_posts, step_posts}
 use Rattle.ba_play.proofs.Starts.{start_fits}
+use Rattle.ba_runs.proofs.Completed.{close_told, run_closes}
 use Rattle.ba_runs.proofs.Nets.{net_moves}
 use Rattle.ba_runs.proofs.OutcomeRecords.{outcomes_recorded}
 use Rattle.ba_runs.proofs.OutcomesTold.{outcomes_told}
 use Rattle.ba_runs.proofs.Recorded.{run_keeps}
-use Rattle.ba_runs.proofs.SoundRuns.{safe_run}
+use Rattle.ba_runs.proofs.SoundRuns.{safe_run, sound_run}
 use Rattle.ba_runs.specs.Runs.{IsFirstWorld, IsRun, goes_on, starts}
 use Rattle.ba_runs.specs.Safety.{IsItsRecords, IsSafe}
 use Rattle.ba_runs.specs.World.{Net, Occasion, World, delivers, net_of, node_at, own, ticks}
@@ -58,6 +59,7 @@ record GoesOn (p : WorldOnDisks) (before : List World) (played : ℕ) : Type 0 w
   few : (k : ℕ) → last (p.world.nodes k).state ≤ 2 * played
   count : p.count < 2 ^ 32
   posts : CanPost p.world
+  posted : AllByRecursion CanPost before
   disks : AllFit p
 
 spare_there : (p : WorldOnDisks) (before : List World) (played : ℕ) → GoesOn p before played → 2 * played + 2 < 2 ^ 64 → HaveSpare p
@@ -77,11 +79,20 @@ record Ends (s : Story) : Type 0 where
   are : s.worlds ≡ first ∷ before
   run : IsRun (first ∷ before)
   in_place : AllByRecursion (λ line. IsInPlace line.1) s.lines
+  posted : AllByRecursion CanPost s.worlds
   disks : AllFit s.last
 
-halts : (p : WorldOnDisks) (before : List World) (halt : Option Halt) → IsRun (p.world ∷ before) → AllFit p
+halts : (p : WorldOnDisks) (before : List World) (played : ℕ) (halt : Option Halt) → GoesOn p before played
     → Ends (record { lines = []; worlds = p.world ∷ before; last = p; halt = halt })
-halts p before halt run disks = record { first = p.world; before = before; are = refl; run = run; in_place = tt; disks = disks }
+halts p before played halt goes = record {
+  first = p.world;
+  before = before;
+  are = refl;
+  run = goes.run;
+  in_place = tt;
+  posted = (goes.posts, goes.posted);
+  disks = goes.disks;
+}
 
 goes_further : (p : WorldOnDisks) (before : List World) (played : ℕ) (effect : WorldEffect) → GoesOn p before played
     → GoesWell p effect → GoesOn effect.after (p.world ∷ before) (suc played)
@@ -94,6 +105,7 @@ goes_further p before played effect goes well = let step = well.steps.step in re
       omega (arith, more, few);
   count = subst (λ (n : ℕ). n < 2 ^ 32) (sym well.steps.count) goes.count;
   posts = step_posts p.world (run_keeps p.world before goes.run) goes.posts effect.after.world step;
+  posted = (goes.posts, goes.posted);
   disks = well.disks goes.posts goes.disks;
 }
 
@@ -101,8 +113,7 @@ by_played : (p : WorldOnDisks) (before : List World) (played : ℕ) (e : Numbere
     → GoesOn p before played → 2 * played + 2 < 2 ^ 64
     → ((after : WorldOnDisks) → GoesOn after (p.world ∷ before) (suc played) → Ends (rest after))
     → (a : EventEffect) → play_step p e.1 ≡ a → Ends (story_by before p e.0 a rest)
-by_played p before played e rest goes room later (Err why) is = halts p before (Some (record { number = e.0; why = why })) goes.run
-    goes.disks
+by_played p before played e rest goes room later (Err why) is = halts p before played (Some (record { number = e.0; why = why })) goes
 by_played p before played e rest goes room later (Ok effect) is =
     let well = steps_in_run p before e.1 effect goes.run (spare_there p before played goes room) is in
     let end = later effect.after (goes_further p before played effect goes well) in
@@ -112,12 +123,13 @@ by_played p before played e rest goes room later (Ok effect) is =
       are = end.are;
       run = end.run;
       in_place = (well.steps.in_place, end.in_place);
+      posted = end.posted;
       disks = end.disks;
     }
 
 walk : (p : WorldOnDisks) (before : List World) (played : ℕ) (events : List NumberedEvent) → GoesOn p before played
     → 2 * (played + length events) + 2 < 2 ^ 64 → Ends (story_from before p events)
-walk p before played [] goes room = halts p before None goes.run goes.disks
+walk p before played [] goes room = halts p before played None goes
 walk p before played (e ∷ more) goes room =
     by_played p before played e (λ after. story_from (p.world ∷ before) after more) goes (omega (arith, room))
     (λ after on. walk after (p.world ∷ before) (suc played) more on (omega (arith, room))) (play_step p e.1) refl
@@ -128,7 +140,14 @@ first_world : IsFirstWorld world_at_start
 first_world = record { clock = refl; bag = refl; base = node_base; nodes = λ k. refl; in_range = base_in_range }
 
 start_goes_on : (count : ℕ) → count < 2 ^ 32 → GoesOn (starting_play count) [] 0
-start_goes_on count small = record { run = starts first_world; few = none_made; count = small; posts = start_posts; disks = start_fits }
+start_goes_on count small = record {
+  run = starts first_world;
+  few = none_made;
+  count = small;
+  posts = start_posts;
+  posted = tt;
+  disks = start_fits;
+}
   where
     none_made : (k : ℕ) → last (world_at_start.nodes k).state ≤ 2 * 0
     none_made k = let none : last (world_at_start.nodes k).state ≡ 0 = refl in omega (arith, none)
@@ -142,11 +161,21 @@ all_safe w before (goes_on run step) = (safe_run w _ (goes_on run step), all_saf
 all_recorded : (w : World) (before : List World) → IsRun (w ∷ before) → OutcomesAreRecorded w before
 all_recorded w before run = record { received = outcomes_recorded w before run; acted = outcomes_told w before run }
 
+all_records : (w : World) (before : List World) → IsRun (w ∷ before) → AllByRecursion IsItsRecords (w ∷ before)
+all_records w before (starts start) = (run_keeps w _ (starts start), tt)
+all_records w before (goes_on run step) = (run_keeps w _ (goes_on run step), all_records _ _ run)
+
+all_completed : (w : World) (before : List World) → IsRun (w ∷ before) → ClosesWhatCompleted w before
+all_completed w before run =
+    record { state = run_closes w before run; told = close_told w before run (sound_run w before run).net }
+
 is_safe : (s : Story) → Ends s → IsSafeStory s
 is_safe s end = record {
   run = subst IsRun (sym end.are) end.run;
   safe = subst (AllByRecursion (λ (x : World). IsSafe (net_of x))) (sym end.are) (all_safe end.first end.before end.run);
+  records = subst (AllByRecursion IsItsRecords) (sym end.are) (all_records end.first end.before end.run);
   recorded = subst RunIsRecorded (sym end.are) (all_recorded end.first end.before end.run);
+  completed = subst RunClosesWhatCompleted (sym end.are) (all_completed end.first end.before end.run);
   in_place = end.in_place;
 }
 
@@ -160,3 +189,22 @@ safe_story count events small room = is_safe (story count events) (ends_well cou
 pub disks_at_end : (count : ℕ) (events : List NumberedEvent) → count < 2 ^ 32 → 2 * length events + 2 < 2 ^ 64 → (k : ℕ) → 1 ≤ k
     → k < 2 ^ 32 → DiskFits ((story count events).last.world.nodes k) ((story count events).last.disks k)
 disks_at_end count events small room = (ends_well count events small room).disks
+
+pub posted_in_all : (count : ℕ) (events : List NumberedEvent) → count < 2 ^ 32 → 2 * length events + 2 < 2 ^ 64
+    → AllByRecursion CanPost (story count events).worlds
+posted_in_all count events small room = (ends_well count events small room).posted
+
+-- the worlds of a run up to one of them are a run
+run_before : (later : List World) (here : World) (behind worlds : List World) → worlds ≡ later ++ (here ∷ behind) → IsRun worlds
+    → IsRun (here ∷ behind)
+run_before [] here behind worlds are run = subst IsRun are run
+run_before (x ∷ []) here behind worlds are (starts start) = absurd cc
+run_before (x ∷ y ∷ later) here behind worlds are (starts start) = absurd cc
+run_before (x ∷ later) here behind worlds are (goes_on {w} {w2} {before} run step) =
+    let same : w ∷ before ≡ later ++ (here ∷ behind) = cc in run_before later here behind (w ∷ before) same run
+
+pub recorded_so_far : (count : ℕ) (events : List NumberedEvent) → count < 2 ^ 32 → 2 * length events + 2 < 2 ^ 64
+    → (later : List World) (w : World) (before : List World) → (story count events).worlds ≡ later ++ (w ∷ before)
+    → OutcomesAreRecorded w before
+recorded_so_far count events small room later w before are =
+    all_recorded w before (run_before later w before (story count events).worlds are (safe_story count events small room).run)

@@ -1,8 +1,10 @@
 pub mod Arrivals
+pub mod Calls
 pub mod Disks
 pub mod Nodes
 pub mod Outcomes
 pub mod Plays
 pub mod Posting
+pub mod Reopenings
 pub mod SafeStories
 pub mod Shows
