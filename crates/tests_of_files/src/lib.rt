@@ -1,13 +1,7 @@
-//! Tests of disks, of streams and of records: each public call once, and what no clause says.
+//! Tests of what stands over the real system, and of a journal in a real file: each public call once.
 #![tactic(auto)]
 
 #[cfg(test)]
-mod listing;
-#[cfg(test)]
-mod memory;
-#[cfg(test)]
-mod memory_disk;
-#[cfg(test)]
-mod record;
+mod lives;
 #[cfg(test)]
 mod system;

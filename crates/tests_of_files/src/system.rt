@@ -1,6 +1,7 @@
 //! A reader, a writer, a file, a connection and a clock are used once through their traits, with a failure in
 //! the middle.
 
+use ba_memory::FixedClock;
 use ba_ports::{Clock, Disk, Failed, Link, Sink, Source};
 use ba_system::{FileDisk, ReadSource, SystemClock, TcpLink, WriteSink};
 use std::fs::OpenOptions;
@@ -172,4 +173,9 @@ fn pauses(rt: HostRuntime) -> Result<(), Fail> {
     assert!(rt; before > 1_700_000_000_000);
     assert!(rt; after >= 20 && after - 20 >= before);
     Ok(())
+}
+
+#[test]
+fn stands_still(rt: HostRuntime) {
+    assert_eq!(rt; pause(&FixedClock::of(77), 1), (77, 77));
 }

@@ -1,5 +1,5 @@
-//! Endpoints and contexts are made, copied, compared and measured where there is memory, and the edges of what
-//! fits and of what can be dialed are said one by one.
+//! Endpoints and contexts are made, copied, compared and measured where there is memory, and the edges of what can be dialed, and
+//! of what fits though no text has it, are said one by one. The limits of what fits are rows of `table_envelopes`.
 
 use ba_core::{Kind, List, Memory, Octets};
 use ba_message::{Context, Epr, dialable};
@@ -66,17 +66,6 @@ fn with_parameter(alloc: Global, parameter: Tree) -> Result<Epr, Memory> {
         address: octets(alloc, b"urn:x")?,
         parameters,
     })
-}
-
-/// An element without content, inside this many others.
-fn nested(alloc: Global, levels: u32) -> Result<Tree, Memory> {
-    let mut tree = leaf(alloc, b"")?;
-    for _ in 1..levels {
-        let mut outer = leaf(alloc, b"")?;
-        put(&mut outer.content, Content::Child(tree))?;
-        tree = outer;
-    }
-    Ok(tree)
 }
 
 #[test]
@@ -160,52 +149,6 @@ fn addresses_that_fit(rt: HostRuntime) -> Result<(), Fail> {
         (b"\x01".as_slice(), false),
     ] {
         assert_eq!(rt; endpoint(rt.alloc(), address)?.fits(), want);
-    }
-    for (length, want) in [(4093, true), (4094, false)] {
-        let mut long = endpoint(rt.alloc(), b"")?;
-        for _ in 0..length {
-            long.address.append(b"a")?;
-        }
-        assert_eq!(rt; long.fits(), want, "at {length}");
-    }
-    Ok(())
-}
-
-#[test]
-fn parameters_that_fit(rt: HostRuntime) -> Result<(), Fail> {
-    for (levels, want) in [(16, true), (17, false)] {
-        let deep = with_parameter(rt.alloc(), nested(rt.alloc(), levels)?)?;
-        assert_eq!(rt; deep.fits(), want, "at {levels} levels");
-    }
-    for (count, want) in [(8, true), (9, false)] {
-        let mut many = endpoint(rt.alloc(), b"urn:x")?;
-        for _ in 0..count {
-            put(&mut many.parameters, key(rt.alloc())?)?;
-        }
-        assert_eq!(rt; many.fits(), want, "at {count} parameters");
-    }
-    Ok(())
-}
-
-#[test]
-fn attributes_that_fit(rt: HostRuntime) -> Result<(), Fail> {
-    let letters = b"abcdefghijklmnopq";
-    for (own, count, want) in [
-        (b"".as_slice(), 16, true),
-        (b"".as_slice(), 17, false),
-        (b"a".as_slice(), 16, true),
-        (b"z".as_slice(), 16, false),
-    ] {
-        let mut tree = leaf(rt.alloc(), own)?;
-        for index in 0..count {
-            let space = &letters[index..index + 1];
-            put(&mut tree.attributes, attribute(rt.alloc(), space, b"n")?)?;
-        }
-        assert_eq!(rt;
-            with_parameter(rt.alloc(), tree)?.fits(),
-            want,
-            "at {count}"
-        );
     }
     Ok(())
 }
