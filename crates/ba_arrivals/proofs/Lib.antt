@@ -1,0 +1,3 @@
+pub mod EndpointInputs
+pub mod PostedMessages
+pub mod SameEndpoints
