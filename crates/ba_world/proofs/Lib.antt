@@ -1,0 +1,9 @@
+pub mod CalledLemmas
+pub mod ChildLemmas
+pub mod DeliveryLemmas
+pub mod EventLemmas
+pub mod MessageLemmas
+pub mod NameLemmas
+pub mod PlaceLemmas
+pub mod StageAnswers
+pub mod StepLemmas
