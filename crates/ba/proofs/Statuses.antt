@@ -17,7 +17,7 @@ use Rattle.ba.specs.declared.notes.RunFault.TheVariants as fault
 pub replay_reads : (why : ReplayFault) → replay_status why ≡ 4 → why ≡ replay.Read
 replay_reads (replay.BadLine number column) is = absurd (omega arith)
 replay_reads (replay.NoSuchMessage number) is = absurd (omega arith)
-replay_reads replay.World is = absurd (omega arith)
+replay_reads (replay.NoSuchName number) is = absurd (omega arith)
 replay_reads replay.Read is = refl
 replay_reads replay.Write is = absurd (omega arith)
 replay_reads replay.Memory is = absurd (omega arith)
@@ -42,7 +42,7 @@ list_reads list.TooLong is = absurd (omega arith)
 pub replay_writes : (why : ReplayFault) → replay_status why ≡ 5 → why ≡ replay.Write
 replay_writes (replay.BadLine number column) is = absurd (omega arith)
 replay_writes (replay.NoSuchMessage number) is = absurd (omega arith)
-replay_writes replay.World is = absurd (omega arith)
+replay_writes (replay.NoSuchName number) is = absurd (omega arith)
 replay_writes replay.Read is = absurd (omega arith)
 replay_writes replay.Write is = refl
 replay_writes replay.Memory is = absurd (omega arith)
@@ -67,7 +67,7 @@ list_writes list.TooLong is = absurd (omega arith)
 replay_known : (why : ReplayFault) → IsStatus (replay_status why)
 replay_known (replay.BadLine number column) = refl
 replay_known (replay.NoSuchMessage number) = refl
-replay_known replay.World = refl
+replay_known (replay.NoSuchName number) = refl
 replay_known replay.Read = refl
 replay_known replay.Write = refl
 replay_known replay.Memory = refl
@@ -99,7 +99,7 @@ status_known (fault.Journal why) = list_known why
 replay_late : (why : ReplayFault) → 2 < replay_status why
 replay_late (replay.BadLine number column) = omega arith
 replay_late (replay.NoSuchMessage number) = omega arith
-replay_late replay.World = omega arith
+replay_late (replay.NoSuchName number) = omega arith
 replay_late replay.Read = omega arith
 replay_late replay.Write = omega arith
 replay_late replay.Memory = omega arith

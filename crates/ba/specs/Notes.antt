@@ -29,8 +29,8 @@ counts_text word number other count = counted_text word number ++ (counted_text 
 
 abbrev pub replay_note : ReplayFault → List ℕ
 replay_note (replay.BadLine number column) = counts_text (codes "line ") number (codes " column ") column
+replay_note (replay.NoSuchName number) = counted_text (codes "line ") number ++ codes " no such name\n"
 replay_note (replay.NoSuchMessage number) = counted_text (codes "line ") number ++ codes " no such message\n"
-replay_note replay.World = codes "worlds are not replayed\n"
 replay_note replay.Read = codes "read\n"
 replay_note replay.Write = codes "write\n"
 replay_note replay.Memory = codes "memory\n"
@@ -93,7 +93,7 @@ note_text (fault.Journal why) = list_note why
 abbrev pub replay_status : ReplayFault → ℕ
 replay_status (replay.BadLine number column) = 3
 replay_status (replay.NoSuchMessage number) = 3
-replay_status replay.World = 3
+replay_status (replay.NoSuchName number) = 3
 replay_status replay.Read = 4
 replay_status replay.Write = 5
 replay_status replay.Memory = 6

@@ -1,11 +1,13 @@
 -- Believe: what `run` promises, by the command that the words ask for and by the fault that stopped it.
-use Rattle.std.specs.Prelude.{◌≡◌, ℕ, ◌+◌, List, Option, IfSome}
+use Rattle.std.specs.Prelude.{◌≡◌, ℕ, ◌+◌, List, [], Option, IfSome}
 use Rattle.ba_check.specs.Checks.{IsReport, StopsCheck}
 use Rattle.ba_check.specs.declared.checks.TheConstants.{MOST_TEXT}
 use Rattle.ba_listing.specs.Journals.{IsListing, StopsListing}
 use Rattle.ba_listing.specs.declared.journals.TheConstants.{MOST_FILE}
+use Rattle.ba_memory.specs.DiskValue.{DiskValue}
 use Rattle.ba_ports.specs.Whole.{WritesOne}
-use Rattle.ba_replay.specs.Replay.{PrintsPlay, StopsReplay, most_of_script}
+use Rattle.ba_replay.specs.Replay.{PrintsWhole, StopsReplay, most_of_script}
+use Rattle.ba_replay.specs.WorldReplay.{HandsOut, LeavesDisks}
 use Rattle.ba.specs.Command.{AsksFor}
 use Rattle.ba.specs.Notes.{note_text, status_of}
 use Rattle.ba.specs.declared.command.Command.{Command}
@@ -15,7 +17,7 @@ use Rattle.ba.specs.declared.notes.RunFault.TheVariants as fault
 
 -- the whole output of a command on this input was written
 abbrev pub Does : Command → List ℕ → Option (List ℕ) → Option (List ℕ) → Type 0
-Does Replay input before now = PrintsPlay input before now
+Does Replay input before now = PrintsWhole input before now
 Does Check input before now = WritesOne (IsReport input) before now
 Does Journal input before now = WritesOne (IsListing input) before now
 
@@ -39,13 +41,25 @@ Stops Check input rest before now (fault.Check why) = StopsCheck input rest befo
 Stops Journal input rest before now (fault.Journal why) = StopsListing input rest before now why
 Stops command input rest before now why = ⊥
 
+-- `replay` hands out the disks of the play of a script, and other commands hand out none
+abbrev pub LeavesWhole : Command → List ℕ → List DiskValue → Type 0
+LeavesWhole Replay input disks = LeavesDisks input disks
+LeavesWhole Check input disks = disks ≡ []
+LeavesWhole Journal input disks = disks ≡ []
+
+-- the disks that are handed out at a fault
+abbrev pub LeavesAt : Command → List ℕ → List DiskValue → RunFault → Type 0
+LeavesAt Replay input disks (fault.Replay why) = HandsOut input disks why
+LeavesAt command input disks why = disks ≡ []
+
 -- There is a fault of this status that stopped the command that the words ask for, and this is its note.
 pub record StoppedAs (status : ℕ) (words : List (List ℕ)) (left rest before now : Option (List ℕ))
-    (IsNoted : List ℕ → Type 0) : Type 0 where
+    (disks : List DiskValue) (IsNoted : List ℕ → Type 0) : Type 0 where
   pub command : Command
   pub asks : AsksFor command words
   pub why : RunFault
   pub own : IsFaultOf command why
   pub has_status : status ≡ status_of why
   pub stops : IfSome left (λ input. Stops command input rest before now why)
+  pub handed : IfSome left (λ input. LeavesAt command input disks why)
   pub noted : IsNoted (note_text why)

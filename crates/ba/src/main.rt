@@ -8,6 +8,7 @@ mod run;
 #[cfg(test)]
 mod tests;
 
+use ba_core::List;
 use ba_system::{ReadSource, WriteSink};
 use notes::{RunFault, refuse};
 use run::run;
@@ -40,6 +41,7 @@ fn run_over(
             &mut source,
             &mut sink,
             &mut notes,
+            &mut List::new(alloc),
         ),
         Err(fault) => refuse::<WriteSink<Stderr>>(fault, &mut notes),
     }

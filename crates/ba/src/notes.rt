@@ -71,13 +71,18 @@ fn write_replay_note<N: Sink>(fault: ReplayFault, notes: &mut N) -> Result<(), N
             u64::from(column),
             notes,
         ),
+        ReplayFault::NoSuchName(number) => write_line(
+            b"line ",
+            u64::from(number),
+            b" no such name\n",
+            notes,
+        ),
         ReplayFault::NoSuchMessage(number) => write_line(
             b"line ",
             u64::from(number),
             b" no such message\n",
             notes,
         ),
-        ReplayFault::World => write_all(notes, b"worlds are not replayed\n"),
         ReplayFault::Read => write_all(notes, b"read\n"),
         ReplayFault::Write => write_all(notes, b"write\n"),
         ReplayFault::Memory => write_all(notes, b"memory\n"),
@@ -218,7 +223,8 @@ fn replay_status(fault: ReplayFault) -> u8
     ensures { result ≡ replay_status fault }
 {
     match fault {
-        ReplayFault::BadLine(_, _) | ReplayFault::NoSuchMessage(_) | ReplayFault::World => 3,
+        ReplayFault::BadLine(_, _) | ReplayFault::NoSuchName(_) | ReplayFault::NoSuchMessage(_) =>
+            3,
         ReplayFault::Read => 4,
         ReplayFault::Write => 5,
         ReplayFault::Memory => 6,

@@ -37,7 +37,7 @@ type Row = (
     &'static [u8],
 );
 
-const ROWS: [Row; 17] = [
+const ROWS: [Row; 19] = [
     (&[], b"", 0, 0, 2, b"", b"usage\n"),
     (&["replay", "replay"], b"", 0, 0, 2, b"", b"usage\n"),
     (
@@ -66,6 +66,24 @@ const ROWS: [Row; 17] = [
         3,
         b"",
         b"line 1 no such message\n",
+    ),
+    (
+        &["replay"],
+        b"nodes 1\ncreate 2 mixed",
+        0,
+        0,
+        3,
+        b"",
+        b"line 2 no such name\n",
+    ),
+    (
+        &["replay"],
+        b"nodes 1\ncreate 1 mixed\ncrash 1\n",
+        0,
+        0,
+        0,
+        b"2 ok 1.1\n3 ok\nnode 1 down\nbag=0\n",
+        b"",
     ),
     (&["replay"], b"act exit\n", 1, 0, 4, b"", b"read\n"),
     (&["replay"], b"act exit\n", 0, 1, 5, b"", b"write\n"),
@@ -119,7 +137,14 @@ fn each_command_and_note(rt: HostRuntime) -> Result<(), Fail> {
         let mut sink = Out::of(alloc, 1000, only(alloc, unwritten)?);
         let mut notes = Out::of(alloc, 100, List::new(alloc));
         assert_eq!(rt;
-            run(alloc, words.as_slice(), &mut source, &mut sink, &mut notes),
+            run(
+                alloc,
+                words.as_slice(),
+                &mut source,
+                &mut sink,
+                &mut notes,
+                &mut List::new(alloc)
+            ),
             status
         );
         assert_eq!(rt; sink.bytes(), output);

@@ -174,6 +174,7 @@ breaks_off whole w e rest effect text before now new (played.NoSuchMessage at) s
     let stops : whole.stopped_at ≡ Some e.0 = rw broken.0 at so_far.stops in
     let none : (play_by w e effect rest).lines ≡ [] = ap (λ o. (play_by w e o rest).lines) broken.0 in
     (stops ∙ ap Some (sym broken.1), all_out whole (play_by w e effect rest) text before now new so_far none broken.2)
+breaks_off whole w e rest effect text before now new (played.NoSuchName at) so_far broken = absurd broken
 breaks_off whole w e rest effect text before now new played.Write so_far broken =
     part_of_held whole (play_by w e effect rest) text (effect_text e.0 effect) before now new so_far broken (rest_shown w e rest effect)
 breaks_off whole w e rest effect text before now new played.Memory so_far broken =

@@ -5,12 +5,16 @@ use Rattle.ba_core.specs.declared.protocols.Protocol.{Protocol}
 use Rattle.ba_pair.specs.PairPlay.{Numbered, play, IsSafePlay}
 use Rattle.ba_pair.specs.PairState.{starting_pair}
 use Rattle.ba_pair.specs.declared.lines.Line.{Line}
+use Rattle.ba_play.specs.Shows.{Halt}
+use Rattle.ba_play.specs.declared.missing.Missing.{Missing}
+use Rattle.ba_play.specs.declared.missing.Missing.TheVariants as missing
 use Rattle.ba_ports.specs.Inputs.{TakesAtMost}
 use Rattle.ba_ports.specs.Lines.{lines_of, bytes_of}
 use Rattle.ba_ports.specs.Outputs.{WritesPart}
 use Rattle.ba_script.specs.Printer.{shown_lines}
-use Rattle.ba_script.specs.Scripts.{NumberedEvent, IsPairScript, IsWorldScript, IsBadScript, IsLongScript, lookahead}
+use Rattle.ba_script.specs.Scripts.{IsPairScript, IsBadScript, IsLongScript, lookahead}
 use Rattle.ba_script.specs.declared.scripts.TheConstants.{MOST_LINES}
+use Rattle.ba_replay.specs.WorldReplay.{PrintsStory, PrintsStoryUpTo, PrintsFirstOfStory, PrintsPartOfStory}
 use Rattle.ba_replay.specs.declared.faults.ReplayFault.{ReplayFault}
 use Rattle.ba_replay.specs.declared.faults.ReplayFault.TheVariants as fault
 -- no more of a source is taken
@@ -20,7 +24,7 @@ pub use Rattle.ba_script.specs.Scripts.{most_of_script}
 abbrev pub WritesFirstLines : List (ℕ × Line) → Option (List ℕ) → Option (List ℕ) → Type 0
 WritesFirstLines lines before now = (count : ℕ) × Appends before now (shown_lines (take count lines))
 
--- The input is a script, and its whole play, which is safe, was written.
+-- The input is a script of a pair, and its whole play, which is safe, was written.
 pub record PrintsPlay (input : List ℕ) (before now : Option (List ℕ)) : Type 0 where
   pub protocol : Protocol
   pub events : List Numbered
@@ -67,20 +71,23 @@ pub record RefusesLength (input : List ℕ) (rest before now : Option (List ℕ)
   pub kept : Keeps before now
   pub taken : TakesAtMost (Some input) rest (bytes_of (take MOST_LINES (lines_of input)) + lookahead)
 
--- The input is a script of a world, which isn't played for now. Nothing was written.
-pub record RefusesWorld (input : List ℕ) (before now : Option (List ℕ)) : Type 0 where
-  pub nodes : ℕ
-  pub events : List NumberedEvent
-  pub script : IsWorldScript input nodes events
-  pub kept : Keeps before now
+-- The input is a script of a pair or of a world, and its whole play, which is safe, was written.
+abbrev pub PrintsWhole : List ℕ → Option (List ℕ) → Option (List ℕ) → Type 0
+PrintsWhole input before now = PrintsPlay input before now ⊎ PrintsStory input before now
+
+-- the play halts at the event of this line, which names this, and it isn't there
+abbrev pub halt_at : ℕ → Missing → Halt
+halt_at number why = record { number = number; why = why }
 
 -- why a replay of this input ended early, and what it had written, where this was left to read: at want of memory
 -- whole lines alone, or nothing; where the output failed, whatever it had taken of the play
 abbrev pub StopsReplay : List ℕ → Option (List ℕ) → Option (List ℕ) → Option (List ℕ) → ReplayFault → Type 0
 StopsReplay input rest before now (fault.BadLine number column) = RefusesLine input number column rest before now
-StopsReplay input rest before now fault.World = RefusesWorld input before now
 StopsReplay input rest before now fault.TooManyLines = RefusesLength input rest before now
-StopsReplay input rest before now (fault.NoSuchMessage number) = PrintsUpTo input number before now
+StopsReplay input rest before now (fault.NoSuchName number) = PrintsStoryUpTo input (halt_at number missing.Name) before now
+StopsReplay input rest before now (fault.NoSuchMessage number) =
+    PrintsUpTo input number before now ⊎ PrintsStoryUpTo input (halt_at number missing.Message) before now
 StopsReplay input rest before now fault.Read = Keeps before now
-StopsReplay input rest before now fault.Write = PrintsPrefix input before now
-StopsReplay input rest before now fault.Memory = PrintsFirstLines input before now ⊎ Keeps before now
+StopsReplay input rest before now fault.Write = PrintsPrefix input before now ⊎ PrintsPartOfStory input before now
+StopsReplay input rest before now fault.Memory =
+    PrintsFirstLines input before now ⊎ (PrintsFirstOfStory input before now ⊎ Keeps before now)

@@ -17,9 +17,9 @@ pub enum ReplayFault {
     BadLine(u32, u32),
     #[error("limit")]
     TooManyLines,
-    /// The script is of a world, and worlds can't be replayed for now.
-    #[error("worlds are not replayed")]
-    World,
+    /// The event of this line names a node that the world hasn't, or a scope that isn't there.
+    #[error("line {0} no such name")]
+    NoSuchName(u32),
     /// The event of this line names a message that isn't in the bag.
     #[error("line {0} no such message")]
     NoSuchMessage(u32),

@@ -23,6 +23,9 @@ pub enum PlayFault {
     Memory,
     #[error("the output can't be written")]
     Write,
+    /// The event of this line names a node or a scope that isn't there.
+    #[error("line {0} no such name")]
+    NoSuchName(u32),
     /// The event of this line names a message that isn't in the bag.
     #[error("line {0} no such message")]
     NoSuchMessage(u32),
@@ -95,9 +98,9 @@ fn play_event<K: Sink>(
     }
 }
 
-// Writes a text that is a block or more.
+/// Writes a text that is a block or more.
 #[tactic(auto, using(crate::proofs::Breaks::stays, crate::proofs::Breaks::goes_out))]
-fn write_full<K: Sink>(text: &mut Octets, sink: &mut K) -> Result<(), NotWritten>
+pub fn write_full<K: Sink>(text: &mut Octets, sink: &mut K) -> Result<(), NotWritten>
     ensures written { OnOk result (GoesOutOrStays (K.written sink.old) text.old (K.written sink.new) text.new) }
     ensures short { OnOk result (length text.new < FULL) }
     ensures part { OnErr result (WritesPart (K.written sink.old) (K.written sink.new) text.old) }

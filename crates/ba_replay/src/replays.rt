@@ -1,30 +1,43 @@
 //! Reads a script, plays it, and writes the line of each event.
-ghost use Rattle.std.specs.Prelude.{◌≡◌, ◌⊎◌, IsTrue, IfErr, IfSome, OnOk, Err, None};
+ghost use Rattle.std.specs.Prelude.{◌≡◌, ◌⊎◌, [], false, IsTrue, IfErr, IfSome, OnOk, Err, None};
 ghost use Rattle.std.specs.Io.KnownBytes.{Appends, IsAtEnd, Keeps};
 ghost use Rattle.ba_ports.specs.Causes.{Rose};
 ghost use Rattle.ba_ports.specs.Inputs.{TakesAtMost};
-ghost use Rattle.ba_replay.specs.Replay.{PrintsPlay, StopsReplay, most_of_script};
+ghost use Rattle.ba_replay.specs.Replay.{PrintsWhole, StopsReplay, most_of_script};
+ghost use Rattle.ba_replay.specs.WorldReplay.{HandsOut, LeavesDisks, is_halt};
 ghost use Rattle.ba_replay.specs.inside.Plays.{unplayed_fault, unread_fault};
 
 use crate::faults::ReplayFault;
 use crate::plays::{PlayFault, play_pair};
+use crate::world_plays::play_world;
+use ba_core::List;
+use ba_memory::MemDisk;
 use ba_ports::{Sink, Source};
 use ba_script::{Script, ScriptFault, read_script};
 use std::alloc::Global;
 
-/// Reads a script of a pair, plays it and writes its lines. A script of a world is refused for now.
+/// Reads a script of a pair or of a world, plays it and writes its lines. The disks of a world's nodes, in the order of
+/// their numbers, are handed out after a whole play and at an event that can't be played, and at no other end.
 pub fn replay<S: Source, K: Sink>(
     alloc: Global,
     source: &mut S,
     sink: &mut K,
+    disks: &mut List<MemDisk>,
 ) -> Result<(), ReplayFault>
+    requires { disks.old ≡ [] }
+
     // The input is a script, read to its end, and its whole play is written.
-    ensures done { OnOk result (IfSome (S.left source.old) (λ input. PrintsPlay input (K.written sink.old) (K.written sink.new))) }
+    ensures done { OnOk result (IfSome (S.left source.old) (λ input. PrintsWhole input (K.written sink.old) (K.written sink.new))) }
     ensures end { OnOk result (IsAtEnd (S.left source.new)) }
 
     // Else the fault says what was wrong, and what was written before.
     ensures stops { IfErr result (λ fault. IfSome (S.left source.old)
         (λ input. StopsReplay input (S.left source.new) (K.written sink.old) (K.written sink.new) fault)) }
+
+    // The disks are those of the play.
+    ensures disks { OnOk result (IfSome (S.left source.old) (λ input. LeavesDisks input disks.new)) }
+    ensures none { IfErr result (λ fault. is_halt fault ≡ false → disks.new ≡ []) }
+    ensures handed { IfErr result (λ fault. IfSome (S.left source.old) (λ input. HandsOut input disks.new fault)) }
 
     // A read fails only where the source counts a fault, and nothing is written then.
     ensures read { (result ≡ Err ReplayFault.Read) → Rose (S.faults source.old) (S.faults source.new) }
@@ -43,7 +56,12 @@ pub fn replay<S: Source, K: Sink>(
                 Err(fault) => Err(unplayed_fault(fault)),
             }
         }
-        Ok(Script::World(_nodes, _events)) => Err(ReplayFault::World),
+        Ok(Script::World(nodes, events)) => {
+            match play_world(alloc, nodes, events.as_slice(), sink, disks) {
+                Ok(()) => Ok(()),
+                Err(fault) => Err(unplayed_fault(fault)),
+            }
+        }
         Err(fault) => Err(unread_fault(fault)),
     }
 }
@@ -67,6 +85,7 @@ fn unplayed_fault(fault: PlayFault) -> ReplayFault
     match fault {
         PlayFault::Memory => ReplayFault::Memory,
         PlayFault::Write => ReplayFault::Write,
+        PlayFault::NoSuchName(number) => ReplayFault::NoSuchName(number),
         PlayFault::NoSuchMessage(number) => ReplayFault::NoSuchMessage(number),
     }
 }

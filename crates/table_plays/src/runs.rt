@@ -29,7 +29,8 @@ pub fn run_of(
     let bytes = Octets::of(Vec::from_slice(alloc, script)?);
     let mut source = Text::of(bytes, piece.max(1), only(alloc, failing_read)?);
     let mut sink = Out::of(alloc, room, only(alloc, failing_write)?);
-    let fault = replay(alloc, &mut source, &mut sink).err();
+    let mut disks = List::new(alloc);
+    let fault = replay(alloc, &mut source, &mut sink, &mut disks).err();
     Ok(Run {
         printed: Vec::from_slice(alloc, sink.bytes())?,
         fault,

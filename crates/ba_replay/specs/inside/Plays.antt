@@ -15,6 +15,7 @@ use Rattle.ba_replay.specs.declared.plays.PlayFault.TheVariants as played
 -- a play that broke off: what was written of it, and why
 abbrev pub BreaksOff : Play → Option (List ℕ) → Option (List ℕ) → PlayFault → Type 0
 BreaksOff p before now (played.NoSuchMessage number) = (p.stopped_at ≡ Some number) × Appends before now (shown_lines p.lines)
+BreaksOff p before now (played.NoSuchName number) = ⊥
 BreaksOff p before now played.Write = WritesPart before now (shown_lines p.lines)
 BreaksOff p before now played.Memory = WritesFirstLines p.lines before now
 
@@ -26,6 +27,7 @@ effect_text number (Some effect) = numbered_line number effect.1
 -- one event broke off a play: what was written since of the text before it and of its own line, and why
 abbrev pub BreaksOffAt : ℕ → Option Effect → List ℕ → Option (List ℕ) → Option (List ℕ) → PlayFault → Type 0
 BreaksOffAt number effect text before now (played.NoSuchMessage at) = (effect ≡ None) × (at ≡ number) × Appends before now text
+BreaksOffAt number effect text before now (played.NoSuchName at) = ⊥
 BreaksOffAt number effect text before now played.Write = WritesPart before now (text ++ effect_text number effect)
 BreaksOffAt number effect text before now played.Memory = Keeps before now
 
@@ -44,4 +46,5 @@ unread_fault script.TooManyLines = fault.TooManyLines
 abbrev pub unplayed_fault : PlayFault → ReplayFault
 unplayed_fault played.Memory = fault.Memory
 unplayed_fault played.Write = fault.Write
+unplayed_fault (played.NoSuchName number) = fault.NoSuchName number
 unplayed_fault (played.NoSuchMessage number) = fault.NoSuchMessage number

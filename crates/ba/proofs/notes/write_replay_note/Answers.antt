@@ -6,4 +6,8 @@ returns-in-BadLine-clause-part g c =
 
 pub returns-in-NoSuchMessage-clause-part : goal.returns-in-NoSuchMessage-clause-part
 returns-in-NoSuchMessage-clause-part g c =
-    rw (c.in-NoSuchMessage.is, ← c.from-in-NoSuchMessage.ensures) c.write_line.ensures.part
+    rw (c.in-NoSuchMessage.is, ← c.from-in-NoSuchMessage.ensures) c.write_line-in-NoSuchMessage.ensures.part
+
+pub returns-in-NoSuchName-clause-part : goal.returns-in-NoSuchName-clause-part
+returns-in-NoSuchName-clause-part g c =
+    rw (c.in-NoSuchName.is, ← c.from-in-NoSuchName.ensures) c.write_line.ensures.part

@@ -14,5 +14,6 @@ returns-in-Err-clause-stopped g c late = record {
   own = c.in-Err.ensures.own;
   has_status = c.refuse-in-Err.ensures.status;
   stops = c.in-Err.ensures.stops;
+  handed = c.in-Err.ensures.handed;
   noted = c.refuse-in-Err.ensures.note;
 }
