@@ -3,7 +3,6 @@ use Rattle.std.proofs.Common.{◌≡◌, ◌∙◌, ℕ, Bool, true, false, List
 use Rattle.std.proofs.lemmas.Bool.{cond-true}
 use Rattle.std.specs.Prelude.{Some, None}
 use Rattle.ba_arrivals.specs.inside.Endpoints.{object_endpoint, input_at}
-use Rattle.ba_arrivals.specs.declared.arrivals.Endpoint.{Endpoint}
 use Rattle.ba_arrivals.specs.declared.arrivals.Endpoint.TheVariants as endpoint
 use Rattle.ba_core.specs.Numbers.{code_part}
 use Rattle.ba_core.specs.declared.identifiers.Id.{Id}

@@ -1,15 +1,14 @@
 -- What is posted and what is replied comes back from its envelope: for both ways of a message.
-use Rattle.std.proofs.Common.{◌≡◌, ℕ, ◌+◌, ◌^◌, ◌<◌, ◌≤◌, Bool, true, false, not, ◌||◌, List, [], Option, Some, None, Ok, IsTrue, IfSome}
+use Rattle.std.proofs.Common.{◌≡◌, ℕ, ◌^◌, ◌<◌, Bool, true, false, not, ◌||◌, List, [], Option, Some, None, Ok, IsTrue, IfSome}
 use Rattle.std.proofs.Common.{refl, sym, ap, subst, arith}
 use Rattle.ba_message.proofs.PlainTexts.{plain_is_bare, plain_is_legal}
-use Rattle.ba_message.specs.Letters.{IsIdentifier, IsPostable, IsPostableMessage, IsReply, IsReplyContext}
+use Rattle.ba_message.specs.Letters.{IsIdentifier, IsPostableMessage, IsReply, IsReplyContext}
 use Rattle.ba_message.specs.declared.messages.Context.{Context}
 use Rattle.ba_message.specs.declared.messages.Letter.{Letter}
 use Rattle.ba_message.specs.declared.messages.Message.{Message}
 use Rattle.ba_message.specs.declared.messages.Message.TheVariants as message
 use Rattle.ba_post.proofs.EncodedReplies.{reply_can_be_encoded}
 use Rattle.ba_post.proofs.NumberUrns.{urn_length, urn_plain}
-use Rattle.ba_post.specs.Replies.{reply_route}
 use Rattle.ba_soap.specs.Envelopes.{soap11}
 use Rattle.ba_tree.specs.declared.trees.Tree.{Tree}
 use Rattle.ba_wire.proofs.WrittenMessages.{text_means}

@@ -1,5 +1,5 @@
 -- What it is for a word to be an act, a verdict, a protocol, a kind, a way to leave or an image.
-use Rattle.std.proofs.Common.{◌≡◌, ◌≢◌, ℕ, List, [], ◌∷◌, ◌⊎◌, inl, inr, Option, None, Some, IfSome, IfNone, true, false, ap}
+use Rattle.std.proofs.Common.{◌≡◌, ◌≢◌, ℕ, List, [], ◌∷◌, inl, inr, Option, None, Some, IfSome, IfNone, true, false, ap}
 use Rattle.ba_core.specs.Words.{act_word, kind_word, protocol_word, verdict_word}
 use Rattle.ba_events.specs.Events.{image_word, leave_word}
 use Rattle.ba_forms.specs.Grammar.{fits, a_kind, a_leave, a_protocol, a_side, a_verdict, an_act, an_image}

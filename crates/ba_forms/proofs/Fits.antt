@@ -5,7 +5,7 @@ use Rattle.std.specs.Fmt.{decimal}
 use Rattle.std.specs.Str.Parse.{digits_value}
 use Rattle.std.proofs.lemmas.Bool.{leb-true, le-leb}
 use Rattle.std.proofs.lemmas.Fmt.{decimal_is_IsNumeral}
-use Rattle.ba_forms.specs.Grammar.{is_one_of, is_number, number, one_of, the, fits}
+use Rattle.ba_forms.specs.Grammar.{is_one_of, number, the, fits}
 
 or_false : (b : Bool) → (b || false) ≡ b
 or_false true = refl

@@ -1,13 +1,12 @@
 -- The words of what a line may say fit a form: for the law that a line means one thing.
-use Rattle.std.proofs.Common.{◌≡◌, ℕ, ◌<◌, ◌≤◌, inl, inr, Option, None, Some, refl, arith}
+use Rattle.std.proofs.Common.{inl, inr, None, Some, refl, arith}
 use Rattle.ba_core.specs.declared.protocols.Protocol.TheVariants.{Pc, Cc}
-use Rattle.ba_core.specs.Texts.{id_text}
 use Rattle.ba_events.specs.Events.{world_words, IsWritten}
 use Rattle.ba_events.specs.declared.events.Event.{Event}
 use Rattle.ba_events.specs.declared.events.Event.TheVariants as world
 use Rattle.ba_pair.specs.declared.events.PairEvent.{PairEvent}
 use Rattle.ba_pair.specs.declared.events.PairEvent.TheVariants as pair
-use Rattle.ba_forms.specs.Grammar.{fits, most_32, most_64, opening_forms, pair_forms, world_forms}
+use Rattle.ba_forms.specs.Grammar.{most_32, most_64, opening_forms, pair_forms, world_forms}
 use Rattle.ba_forms.specs.Readings.{opening_words, IsPlayable, pair_words, IsPairWritten}
 use Rattle.ba_forms.specs.declared.readings.Form.{Form}
 use Rattle.ba_forms.specs.declared.readings.Form.TheVariants as form

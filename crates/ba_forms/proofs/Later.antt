@@ -1,5 +1,5 @@
 -- Words that differ, for what may come after a new scope's kind and after the name of the scope above it.
-use Rattle.std.proofs.Common.{◌≡◌, ℕ, List, true, false, ap, codes}
+use Rattle.std.proofs.Common.{◌≡◌, ℕ, List, false, ap, codes}
 use Rattle.ba_forms.specs.Grammar.{fits, the}
 
 pub under_is_no_expires : (word : List ℕ) → word ≡ codes "expires" → fits (the (codes "under")) word ≡ false

@@ -1,5 +1,5 @@
 -- What the records of a reading cost: for the clauses `in_range` and `paid` of a load.
-use Rattle.std.proofs.Common.{◌≡◌, ℕ, ◌+◌, ◌*◌, ◌<◌, ◌≤◌, List, [], ◌∷◌, ◌++◌, length, Ok, Err, arith, length-append, subst, sym}
+use Rattle.std.proofs.Common.{◌≡◌, ℕ, ◌+◌, ◌≤◌, List, [], ◌∷◌, ◌++◌, length, Ok, arith, length-append, subst, sym}
 use Rattle.std.specs.List.{AllByRecursion}
 use Rattle.ba_record.specs.Coding.{InRange}
 use Rattle.ba_record.specs.Reading.{IsBytes, reading}

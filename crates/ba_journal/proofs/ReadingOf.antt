@@ -1,12 +1,12 @@
 -- What a load finds in a file is what `reading_of` computes, for the clauses of `a_reading_is_computed`.
-use Rattle.std.proofs.Common.{◌≡◌, ◌≢◌, ◌⊎◌, inl, inr, ◌-◌, ◌<◌, ◌≤◌, ◌+◌, ℕ, suc, zero, Bool, true, false, if◌then◌else◌, nat_eq, List, [], ◌∷◌, ◌++◌, length, map, drop, Option, None, Some, Result, Ok, Err, refl, sym, ◌∙◌, ap, subst, arith}
+use Rattle.std.proofs.Common.{◌≡◌, ◌≢◌, ◌⊎◌, inl, inr, ◌-◌, ◌<◌, ◌≤◌, ℕ, suc, zero, Bool, false, if◌then◌else◌, nat_eq, List, [], ◌∷◌, length, map, drop, Option, None, Result, Ok, refl, sym, ◌∙◌, ap, subst, arith}
 use Rattle.std.proofs.lemmas.Bool.Decides.{nat_tests}
 use Rattle.std.proofs.lemmas.List.{length-drop}
 use Rattle.ba_record.specs.Reading.{reading}
 use Rattle.ba_record.specs.declared.records.Record.{Record}
 use Rattle.ba_record.specs.declared.records.RecordFault.{RecordFault}
-use Rattle.ba_journal.specs.Frames.{is_fresh, frame_of, Leads, AreRecords, Holds, IsNoJournal, StandsFor}
-use Rattle.ba_journal.specs.Readings.{ReadsAs, Finds, IsTail, with_frame, frames_from, if_record, records_from, tail_from, found_in, reading_of, records_found}
+use Rattle.ba_journal.specs.Frames.{is_fresh, frame_of, Leads, AreRecords, IsNoJournal, StandsFor}
+use Rattle.ba_journal.specs.Readings.{ReadsAs, IsTail, with_frame, frames_from, if_record, records_from, tail_from, found_in, reading_of, records_found}
 use Rattle.ba_journal.specs.declared.readings.Reading.{Reading}
 use Rattle.ba_journal.specs.declared.readings.Reading.TheVariants.{Fresh, Found}
 use Rattle.ba_journal.specs.declared.readings.Tail.{Tail}

@@ -6,7 +6,6 @@ use Rattle.ba_ports.specs.Disk.{InTurn, Only}
 use Rattle.ba_ports.specs.declared.requests.Call.{Call}
 use Rattle.ba_ports.specs.declared.requests.Request.{Request}
 use Rattle.ba_ports.specs.declared.requests.Request.TheVariants.{WriteAt, Sync}
-use Rattle.ba_record.specs.Coding.{coding}
 use Rattle.ba_record.specs.declared.records.Record.{Record}
 use Rattle.ba_journal.specs.Frames.{Holds, StandsFor}
 use Rattle.ba_journal.specs.declared.faults.JournalFault.{JournalFault}

@@ -1,7 +1,7 @@
 -- How a journal is begun: its own record is kept, or its records are replayed.
-use Rattle.std.proofs.Common.{◌≡◌, ◌≢◌, inl, inr, ℕ, ◌+◌, ◌*◌, ◌<◌, ◌≤◌, ◌^◌, Bool, List, [], ◌∷◌, length, None, Some, Result, Ok, Err, IfOk, IsTrue, refl, sym, ap, ◌∙◌, subst, arith}
+use Rattle.std.proofs.Common.{◌≡◌, ◌≢◌, inl, ℕ, ◌+◌, ◌*◌, ◌<◌, ◌≤◌, ◌^◌, Bool, List, [], ◌∷◌, length, None, Some, Result, Ok, Err, IfOk, IsTrue, refl, sym, ap, subst, arith}
 use Rattle.std.specs.List.{AllByRecursion}
-use Rattle.ba_journal.specs.Journals.{IsSettled, JournalValue}
+use Rattle.ba_journal.specs.Journals.{JournalValue}
 use Rattle.ba_journal.specs.declared.journals.TheConstants.{GREATEST_LENGTH}
 use Rattle.ba_journal.specs.declared.loads.TheConstants.{FIRST_GATE}
 use Rattle.ba_node.specs.Loading.{RefusesLoad, begun}
@@ -13,7 +13,6 @@ use Rattle.ba_node.specs.declared.faults.NodeFault.TheVariants as node_fault
 use Rattle.ba_node.specs.inside.Beginnings.{Begins, Begun, IsReplay, begin_fault_of}
 use Rattle.ba_node.specs.inside.Kept.{IsKept}
 use Rattle.ba_node.proofs.Moments.{stood_still}
-use Rattle.ba_node.proofs.Openings.{replay_begun}
 use Rattle.ba_ports.specs.declared.requests.Call.{Call}
 use Rattle.ba_record.specs.Coding.{InRange, coding}
 use Rattle.ba_record.specs.Endpoints.{IsBase}

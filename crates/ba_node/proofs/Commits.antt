@@ -1,19 +1,15 @@
 -- What a change that was due makes of a node on its journal, from what the keeping of its record makes of the journal.
-use Rattle.std.proofs.Common.{◌≡◌, ◌≢◌, ◌↔◌, inl, inr, ℕ, ◌+◌, ◌*◌, ◌<◌, ◌≤◌, ◌^◌, Bool, List, [], ◌∷◌, ◌++◌, length, Option, None, Some, Result, Ok, Err, IfErr, IfSome, OnErr, OnOk, IsTrue, refl, sym, ap, ◌∙◌, subst, arith}
-use Rattle.ba_journal.specs.Frames.{StandsFor}
-use Rattle.ba_journal.specs.Journals.{IsSettled, JournalValue}
+use Rattle.std.proofs.Common.{◌≡◌, ◌≢◌, ℕ, ◌+◌, ◌*◌, ◌<◌, ◌≤◌, ◌^◌, Bool, List, length, Option, None, Some, Ok, Err, IfSome, IsTrue, refl, sym, ap, ◌∙◌, subst, arith}
+use Rattle.ba_journal.specs.Journals.{JournalValue}
 use Rattle.ba_journal.specs.declared.journals.TheConstants.{GREATEST_LENGTH}
-use Rattle.ba_node.specs.Answers.{IsAnswered, changed_on_journal, closed_node}
-use Rattle.ba_node.specs.Keeping.{IsPast, StandsWith, Stepped, end_after, with_record}
+use Rattle.ba_node.specs.Keeping.{IsPast, end_after}
 use Rattle.ba_node.specs.Nodes.{NodeHolds, NodeOnJournal, on_journal}
 use Rattle.ba_node.specs.declared.faults.NodeFault.{NodeFault}
 use Rattle.ba_node.specs.declared.faults.NodeFault.TheVariants as fault
 use Rattle.ba_node.specs.inside.Commits.{Commits, IsDue}
 use Rattle.ba_node.specs.inside.Kept.{IsKept}
-use Rattle.ba_ports.specs.Causes.{Rose}
-use Rattle.ba_ports.specs.Disk.{LeavesOnly}
 use Rattle.ba_ports.specs.declared.requests.Call.{Call}
-use Rattle.ba_node.proofs.Moments.{err_is, none_is_no_some, ok_is_no_err}
+use Rattle.ba_node.proofs.Moments.{none_is_no_some, ok_is_no_err}
 use Rattle.ba_record.specs.Coding.{InRange, coding}
 use Rattle.ba_record.specs.declared.records.Record.{Record}
 use Rattle.ba_record.specs.declared.records.Record.TheVariants as journal

@@ -1,6 +1,6 @@
 -- How a loading of a node follows from one of its journal.
-use Rattle.std.proofs.Common.{◌≡◌, ◌≢◌, ◌⊎◌, ℕ, inl, inr, ⊎_elim, Bool, true, false, List, [], ◌∷◌, ◌++◌, length, Result, Ok, Err, IfErr, refl, sym, ◌∙◌, ap, subst}
-use Rattle.ba_ports.specs.Disk.{InTurn, LeavesOnly, counted}
+use Rattle.std.proofs.Common.{◌≡◌, ◌≢◌, ◌⊎◌, ℕ, inl, inr, Bool, true, false, List, [], ◌∷◌, ◌++◌, length, Result, Ok, Err, refl, sym, ◌∙◌, ap, subst}
+use Rattle.ba_ports.specs.Disk.{InTurn, counted}
 use Rattle.ba_ports.specs.declared.requests.Call.{Call}
 use Rattle.ba_ports.specs.declared.requests.Request.{Request}
 use Rattle.ba_ports.specs.declared.requests.Request.TheVariants.{Sync}
@@ -8,7 +8,6 @@ use Rattle.ba_record.specs.declared.records.Record.{Record}
 use Rattle.ba_journal.specs.Frames.{StandsFor, IsNoJournal}
 use Rattle.ba_journal.specs.Loads as journal
 use Rattle.ba_journal.specs.Loads.{MayStandSince, IsOpenedAs, settling}
-use Rattle.ba_journal.specs.Loads.{EndsFailed}
 use Rattle.ba_journal.specs.declared.faults.JournalFault.{JournalFault}
 use Rattle.ba_journal.specs.declared.faults.JournalFault.TheVariants as journal_fault
 use Rattle.ba_journal.specs.declared.readings.Reading.{Reading}

@@ -18,8 +18,7 @@ use Rattle.ba_message.specs.declared.messages.Message.TheVariants as message
 use Rattle.ba_node.specs.Posting.{LeavesRoom}
 use Rattle.ba_node.specs.declared.faults.NodeFault.{NodeFault}
 use Rattle.ba_record.specs.Endpoints.{IsBase}
-use Rattle.ba_steps.proofs.Hyphens.{hyphenated_length}
-use Rattle.ba_steps.specs.Addresses.{hex_digit, hex_digits, hyphenated, participant_of, registration_of}
+use Rattle.ba_steps.specs.Addresses.{hex_digit, hex_digits, hyphenated, participant_of}
 use Rattle.ba_steps.specs.Letters.{IsLetterOf, IsOwnMessage, is_known_notice}
 use Rattle.ba_steps.specs.Node.{NodeState}
 use Rattle.ba_steps.specs.declared.answers.Ticked.{Ticked}

@@ -1,13 +1,11 @@
 -- The same answer with another value in its Ok, and the answer of a call that asked nothing of the disk.
-use Rattle.std.proofs.Common.{◌≡◌, ◌≢◌, ◌↔◌, ℕ, ◌≤◌, Bool, List, [], length, Option, None, Some, Result, Ok, Err, IsTrue, refl, sym, ap, ◌∙◌, subst, arith}
-use Rattle.ba_node.specs.Answers.{IsAnswered}
-use Rattle.ba_node.specs.Keeping.{IsPast, StandsWith, Stepped}
+use Rattle.std.proofs.Common.{◌≡◌, ◌≢◌, ◌↔◌, ℕ, Bool, List, [], Option, None, Some, Result, Ok, Err, refl, sym, ap, ◌∙◌, arith}
+use Rattle.ba_node.specs.Keeping.{Stepped}
 use Rattle.ba_node.specs.Nodes.{NodeOnJournal}
 use Rattle.ba_node.specs.declared.faults.NodeFault.{NodeFault}
 use Rattle.ba_node.specs.declared.faults.NodeFault.TheVariants as fault
 use Rattle.ba_node.specs.inside.Commits.{Commits}
 use Rattle.ba_node.proofs.Moments.{nothing_asked}
-use Rattle.ba_ports.specs.Disk.{LeavesOnly}
 use Rattle.ba_ports.specs.declared.requests.Call.{Call}
 use Rattle.ba_record.specs.declared.records.Record.{Record}
 use Rattle.ba_steps.specs.Lawful.{Change}

@@ -1,5 +1,5 @@
 -- Believe: what a call of a node answers, and what it makes of the node, given the change that is due.
-use Rattle.std.specs.Prelude.{◌≡◌, ◌≢◌, ◌↔◌, ℕ, Option, None, Some, Result, Ok, Err, IfErr, OnOk}
+use Rattle.std.specs.Prelude.{◌≡◌, ◌≢◌, ◌↔◌, ℕ, None, Some, Result, Err, IfErr, OnOk}
 use Rattle.ba_node.specs.Keeping.{IsPast, end_after}
 use Rattle.ba_node.specs.Nodes.{NodeOnJournal}
 use Rattle.ba_node.specs.declared.faults.NodeFault.{NodeFault}

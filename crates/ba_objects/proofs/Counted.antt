@@ -1,5 +1,5 @@
 -- As many objects as the greatest counter; for the count of them.
-use Rattle.std.proofs.Common.{◌≡◌, ℕ, ◌+◌, ◌<◌, ◌^◌, max, List, [], ◌∷◌, ◌++◌, map, Option, None, Some, length, refl, sym, ap, ◌∙◌, arith, length-append}
+use Rattle.std.proofs.Common.{◌≡◌, ℕ, ◌+◌, ◌<◌, ◌^◌, List, [], ◌∷◌, map, length, refl, sym, ap, ◌∙◌, arith, length-append}
 use Rattle.std.proofs.lemmas.List.{length-map}
 use Rattle.std.proofs.lemmas.List.Sums.{sum_by-cons}
 use Rattle.std.specs.List.{sum_by}
@@ -7,7 +7,7 @@ use Rattle.ba_core.specs.declared.identifiers.Id.{Id}
 use Rattle.ba_objects.specs.inside.Counts.{id_count}
 use Rattle.ba_scope.specs.Scope.{ScopeState}
 use Rattle.ba_ends.specs.declared.parts.Part.{Part}
-use Rattle.ba_steps.proofs.Objects.{end_ids, ids_in_scopes, lone_ids, up_ids}
+use Rattle.ba_steps.proofs.Objects.{ids_in_scopes, lone_ids}
 use Rattle.ba_steps.specs.Fits.{NodeFits}
 use Rattle.ba_steps.specs.Node.{NodeState, counter, ids, last, scope_ids}
 use Rattle.ba_tree.specs.Lengths.{in_u64}

@@ -5,8 +5,7 @@ use Rattle.ba_core.specs.declared.identifiers.Id.{Id}
 use Rattle.ba_objects.specs.Finds.{end_at}
 use Rattle.ba_scope.specs.Scope.{ScopeState}
 use Rattle.ba_ends.specs.declared.ends.End.{End}
-use Rattle.ba_ends.specs.declared.parts.Part.{Part}
-use Rattle.ba_steps.specs.Node.{EndPlace, NodeState, PartPlace, end_place, lone, nowhere, part_place, scope_with_id, upward}
+use Rattle.ba_steps.specs.Node.{EndPlace, NodeState, PartPlace, end_place, part_place, scope_with_id}
 use Rattle.ba_steps.specs.Shown.{deadline_of, in_scope, object_ids, part_seen, pending_deadline, seen_at}
 use Rattle.ba_steps.specs.Steps.{if_found}
 use Rattle.ba_steps.specs.declared.answers.Seen.{Seen}

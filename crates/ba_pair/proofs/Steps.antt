@@ -22,7 +22,7 @@ use Rattle.ba_core.specs.declared.rows.PRow.{PRow}
 use Rattle.ba_core.specs.declared.rows.PRow.TheVariants as prow
 use Rattle.ba_link.specs.Fits.{LinkFits}
 use Rattle.ba_link.specs.Link as link
-use Rattle.ba_link.specs.Link.{End, LinkStep, to_part, to_end}
+use Rattle.ba_link.specs.Link.{End, to_part, to_end}
 use Rattle.ba_pair.specs.declared.events.PairEvent.{PairEvent}
 use Rattle.ba_pair.specs.declared.events.PairEvent.TheVariants as event
 use Rattle.ba_pair.specs.declared.events.StepFault.{StepFault}

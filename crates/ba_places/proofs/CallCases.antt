@@ -1,13 +1,13 @@
 -- What a call of a place leads to by what its node answered is what the call of the play leads to; for the clauses of `call_input`,
 -- `call_tick` and `call_nothing`.
-use Rattle.std.proofs.Common.{◌≡◌, ◌≢◌, inl, inr, ℕ, Bool, true, false, List, [], ◌∷◌, ◌++◌, Option, Some, None, Result, Ok, Err, is_some, refl, sym, ◌∙◌, ap, subst}
+use Rattle.std.proofs.Common.{◌≡◌, ◌≢◌, ℕ, true, false, List, ◌++◌, Option, Some, None, Result, Ok, Err, is_some, refl, sym, ◌∙◌, ap, subst}
 use Rattle.std.specs.Option.{option_map, option_to_list}
 use Rattle.std.proofs.lemmas.List.{append-nil}
 use Rattle.ba_core.specs.declared.identifiers.Id.{Id}
 use Rattle.ba_events.specs.declared.outcomes.Outcome.{Outcome}
 use Rattle.ba_events.specs.declared.outcomes.Outcome.TheVariants as outcome
 use Rattle.ba_memory.specs.DiskValue.{DiskValue, Drives, IsLater, MayBeLeft, MayHaveBeenLeft, MediumValue, rearm}
-use Rattle.ba_node.specs.Answers.{IsAnswered, changed_on_journal, closed_node}
+use Rattle.ba_node.specs.Answers.{IsAnswered, closed_node}
 use Rattle.ba_node.specs.Keeping.{IsPast, StandsWith, Stepped, with_record}
 use Rattle.ba_node.specs.Nodes.{NodeOnJournal}
 use Rattle.ba_node.specs.declared.faults.NodeFault.{NodeFault}
@@ -15,19 +15,17 @@ use Rattle.ba_node.specs.declared.faults.NodeFault.TheVariants as fault
 use Rattle.ba_places.proofs.CallLemmas.{CallIs, Settled, broken_is, closed_is, closed_matches, down_is, down_matches, full_is, left_after, runs_unarmed, taken_call}
 use Rattle.ba_places.specs.Calls.{CallLeadsTo, IsOfInput, MatchesBoth}
 use Rattle.ba_places.specs.Places.{Matches, RestsAt, RunsAt, kind_among, mode_of}
-use Rattle.ba_places.specs.declared.calls.Answer.{Answer}
 use Rattle.ba_places.specs.declared.calls.Answer.TheVariants as answer
 use Rattle.ba_places.specs.declared.places.KnownScope.{KnownScope}
 use Rattle.ba_places.specs.declared.places.Place.{Place}
 use Rattle.ba_places.specs.declared.places.Place.TheVariants as place
 use Rattle.ba_places.specs.inside.Calls.{IsBroken, IsBrokenBy, IsUntaken, KnowsScopes, unarmed}
-use Rattle.ba_play.specs.Disks.{HoldsNode}
 use Rattle.ba_play.specs.Nodes.{NodeCall, broken_call, called_node, disarmed, lost_call, node_call, node_pending, node_taken}
 use Rattle.ba_ports.specs.Disk.{LeavesOnly, nothing}
 use Rattle.ba_ports.specs.declared.images.Image.{Image}
 use Rattle.ba_ports.specs.declared.requests.Call.{Call}
 use Rattle.ba_record.specs.declared.records.Record.{Record}
-use Rattle.ba_runs.specs.World.{Mode, Occasion, WorldNode, delivers, is_closed, is_down, is_up, own, ticks}
+use Rattle.ba_runs.specs.World.{Occasion, WorldNode, delivers, is_closed, is_down, own, ticks}
 use Rattle.ba_runs.specs.WorldSteps.{effect}
 use Rattle.ba_steps.specs.Fits.{HasSpareCounters}
 use Rattle.ba_steps.specs.Lawful.{Change}

@@ -1,19 +1,18 @@
 -- A call of a node that finds memory is the call of the play; for the clauses of `call_input` and `call_tick`.
-use Rattle.std.proofs.Common.{◌≡◌, ◌≢◌, ◌+◌, ◌<◌, ℕ, inl, inr, Bool, true, false, List, [], ◌∷◌, ◌++◌, length, Option, Some, None, Result, Ok, Err, refl, sym, ◌∙◌, ap, subst, if◌then◌else◌}
+use Rattle.std.proofs.Common.{◌≡◌, ◌+◌, ℕ, inl, inr, Bool, true, false, List, [], ◌∷◌, ◌++◌, length, Option, Some, None, Ok, Err, refl, sym, ◌∙◌, ap, subst, if◌then◌else◌}
 use Rattle.std.specs.Option.{option_to_list}
 use Rattle.ba_events.specs.declared.outcomes.Outcome.TheVariants as outcome
 use Rattle.ba_journal.specs.Frames.{StandsFor}
-use Rattle.ba_journal.specs.Journals.{GoesPast, IsSettled, appending, behind_gate}
+use Rattle.ba_journal.specs.Journals.{IsSettled, appending, behind_gate}
 use Rattle.ba_memory.specs.DiskValue.{DiskValue, Drives, IsLater, MayBeLeft, MayHaveBeenLeft, MediumValue, bytes_of, rearm}
 use Rattle.ba_memory.specs.inside.DiskLaws.{left_now}
-use Rattle.ba_node.specs.Keeping.{IsPast, StandsWith, Stepped, with_record}
+use Rattle.ba_node.specs.Keeping.{IsPast, StandsWith, Stepped}
 use Rattle.ba_node.specs.Nodes.{NodeOnJournal}
 use Rattle.ba_node.specs.declared.faults.NodeFault.TheVariants as fault
 use Rattle.ba_play.proofs.Driven.{append_is_played, past_is_played}
 use Rattle.ba_play.specs.Disks.{HoldsNode, StandsForNode}
-use Rattle.ba_play.specs.Nodes.{NodeCall, append_run, broken_call, call_by_append, call_by_mode, call_by_record, called_node, disarmed, is_past_end, node_call, node_pending, node_taken}
+use Rattle.ba_play.specs.Nodes.{append_run, broken_call, call_by_append, call_by_mode, call_by_record, called_node, disarmed, is_past_end, node_call, node_pending, node_taken}
 use Rattle.ba_ports.specs.Disk.{InTurn, LeavesOnly, nothing}
-use Rattle.ba_ports.specs.declared.images.Image.{Image}
 use Rattle.ba_ports.specs.declared.requests.Call.{Call}
 use Rattle.ba_record.specs.Coding.{coding}
 use Rattle.ba_record.specs.declared.records.Record.{Record}

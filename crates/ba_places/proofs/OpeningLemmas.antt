@@ -1,12 +1,12 @@
 -- A loading that finds memory is the opening of the play; for the clauses of `open`.
-use Rattle.std.proofs.Common.{◌≡◌, ◌≢◌, ◌⊎◌, ◌+◌, ℕ, inl, inr, Bool, true, false, List, [], ◌∷◌, ◌++◌, length, Option, Some, None, Result, Ok, Err, IfOk, refl, sym, ◌∙◌, ap, subst}
+use Rattle.std.proofs.Common.{◌≡◌, ◌≢◌, ◌⊎◌, ◌+◌, ℕ, inl, inr, Bool, true, false, List, [], ◌∷◌, ◌++◌, Option, Some, None, Result, Ok, Err, IfOk, refl, sym, ◌∙◌, ap, subst}
 use Rattle.std.specs.Option.{option_to_list}
 use Rattle.std.proofs.lemmas.List.{append-nil}
 use Rattle.ba_core.specs.declared.memory.Memory.{Memory}
 use Rattle.ba_events.specs.declared.outcomes.Outcome.{Outcome}
 use Rattle.ba_events.specs.declared.outcomes.Outcome.TheVariants as outcome
 use Rattle.ba_journal.proofs.Meanings.{one_list}
-use Rattle.ba_journal.proofs.ReadingOf.{computed, stands_computed, stands_found}
+use Rattle.ba_journal.proofs.ReadingOf.{stands_found}
 use Rattle.ba_journal.specs.Frames.{StandsFor}
 use Rattle.ba_journal.specs.Loads.{EndsFailed, settling}
 use Rattle.ba_journal.specs.Readings.{ReadsAs, reading_of, records_found}
@@ -27,7 +27,7 @@ use Rattle.ba_ports.specs.declared.requests.Call.{Call}
 use Rattle.ba_ports.specs.declared.requests.Request.{Request}
 use Rattle.ba_ports.specs.declared.requests.Request.TheVariants as request
 use Rattle.ba_record.specs.declared.records.Record.{Record}
-use Rattle.ba_runs.specs.World.{WorldNode, is_down, is_up}
+use Rattle.ba_runs.specs.World.{WorldNode, is_up}
 use Rattle.ba_steps.specs.Fits.{HasSpareCounters}
 use Rattle.ba_steps.specs.Lawful.{Replays}
 use Rattle.ba_steps.specs.Node.{NodeState}

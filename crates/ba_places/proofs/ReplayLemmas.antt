@@ -6,7 +6,7 @@ use Rattle.ba_places.specs.Calls.{IsLawfulNode}
 use Rattle.ba_play.specs.Nodes.{opened_by}
 use Rattle.ba_record.specs.declared.records.Record.{Record}
 use Rattle.ba_record.specs.declared.records.Record.TheVariants as journal
-use Rattle.ba_runs.specs.World.{Mode, Occasion, WorldNode, delivers, is_up, own, ticks}
+use Rattle.ba_runs.specs.World.{Occasion, WorldNode, delivers, is_up, own, ticks}
 use Rattle.ba_runs.specs.WorldSteps.{effect}
 use Rattle.ba_steps.proofs.Enacted.{some_is}
 use Rattle.ba_steps.proofs.Reenacted.{after_of}

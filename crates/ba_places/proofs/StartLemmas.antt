@@ -1,13 +1,11 @@
 -- A node that is loaded from an empty disk is that of a world at its start; for the clause of `first_place`.
-use Rattle.std.proofs.Common.{◌≡◌, inl, ℕ, ◌<◌, ◌≤◌, ◌^◌, Bool, false, List, [], ◌∷◌, ◌++◌, None, refl, sym, ◌∙◌, ap, subst}
+use Rattle.std.proofs.Common.{◌≡◌, inl, ℕ, ◌<◌, ◌≤◌, ◌^◌, Bool, false, List, [], ◌∷◌, refl, sym, ◌∙◌, ap, subst}
 use Rattle.ba_journal.proofs.Meanings.{one_list}
 use Rattle.ba_journal.proofs.ReadingOf.{computed}
-use Rattle.ba_journal.specs.Frames.{StandsFor}
-use Rattle.ba_journal.specs.Readings.{reading_of}
 use Rattle.ba_journal.specs.declared.readings.Reading.{Reading}
 use Rattle.ba_journal.specs.declared.readings.Reading.TheVariants.{Fresh}
 use Rattle.ba_memory.proofs.Turns.{run_of_counted}
-use Rattle.ba_memory.specs.DiskValue.{DiskValue, MediumValue, holding, run}
+use Rattle.ba_memory.specs.DiskValue.{DiskValue, MediumValue, holding}
 use Rattle.ba_node.specs.Loading.{begun, opening}
 use Rattle.ba_node.specs.Nodes.{NodeOnJournal}
 use Rattle.ba_places.proofs.CallLemmas.{Settled, holds_at_rest, settled_unarmed}
@@ -21,14 +19,13 @@ use Rattle.ba_play.specs.Disks.{HoldsNode}
 use Rattle.ba_play.specs.Nodes.{disarmed}
 use Rattle.ba_play.specs.Plays.{disk_at_start, node_base}
 use Rattle.ba_ports.specs.Disk.{InTurn, counted}
-use Rattle.ba_ports.specs.declared.requests.Request.{Request}
 use Rattle.ba_record.specs.Endpoints.{IsBase}
 use Rattle.ba_record.specs.declared.records.Record.{Record}
 use Rattle.ba_record.specs.declared.records.Record.TheVariants as journal
 use Rattle.ba_runs.specs.Runs.{node_at_start}
 use Rattle.ba_runs.specs.World.{WorldNode}
 use Rattle.ba_steps.specs.Lawful.{Replays}
-use Rattle.ba_steps.specs.Node.{NodeState, new_node}
+use Rattle.ba_steps.specs.Node.{new_node}
 
 -- the base of a node's addresses is one
 pub base_is_one : (k : ℕ) → 1 ≤ k → k < 2 ^ 32 → IsBase (node_base k)

@@ -9,7 +9,6 @@ use Rattle.ba_node.specs.Nodes.{NodeOnJournal}
 use Rattle.ba_places.specs.declared.places.KnownScope.{KnownScope}
 use Rattle.ba_places.specs.declared.places.Place.{Place}
 use Rattle.ba_play.specs.Disks.{HoldsNode}
-use Rattle.ba_ports.specs.Disk.{nothing}
 use Rattle.ba_runs.specs.World.{Mode, WorldNode, is_closed, is_down, is_up}
 use Rattle.ba_steps.specs.Fits.{HasSpareCounters}
 use Rattle.ba_steps.specs.Node.{scope_with_id}

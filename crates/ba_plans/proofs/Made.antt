@@ -1,5 +1,5 @@
 -- The plans of Create, Join and Register: what is made has the next identifier.
-use Rattle.std.proofs.Common.{◌≡◌, ℕ, Bool, true, false, not, ◌||◌, ◌<◌, List, [], ◌∷◌, Option, None, Some, IsTrue, inl, inr, refl, sym, ap, ◌∙◌, true≢false}
+use Rattle.std.proofs.Common.{◌≡◌, ℕ, Bool, true, false, not, ◌||◌, List, [], ◌∷◌, Option, None, Some, IsTrue, inl, inr, refl, sym, ap, ◌∙◌, true≢false}
 use Rattle.std.specs.List.{list_any}
 use Rattle.std.specs.Option.{option_map}
 use Rattle.ba_core.specs.declared.identifiers.Id.{Id}
@@ -7,7 +7,7 @@ use Rattle.ba_core.specs.declared.protocols.Kind.{Kind}
 use Rattle.ba_core.specs.declared.protocols.Protocol.{Protocol}
 use Rattle.ba_message.specs.declared.endpoints.Epr.{Epr}
 use Rattle.ba_message.specs.declared.messages.Context.{Context}
-use Rattle.ba_objects.specs.Changes.{SuitsEnrol, changed_node, changed_scope}
+use Rattle.ba_objects.specs.Changes.{changed_node, changed_scope}
 use Rattle.ba_objects.specs.Finds.{FindsScope}
 use Rattle.ba_objects.specs.declared.changes.Change.TheVariants as changes
 use Rattle.ba_objects.specs.declared.changes.ScopeChange.TheVariants as by_scope
@@ -16,7 +16,7 @@ use Rattle.ba_plans.specs.inside.Joining.{join_step}
 use Rattle.ba_plans.specs.inside.Registering.{refusal_code}
 use Rattle.ba_record.specs.declared.records.Record.TheVariants as journal
 use Rattle.ba_scope.specs.Rules.{enrol_refusal, new_scope, scope_with_end}
-use Rattle.ba_ends.specs.Ends.{end_of, same_id}
+use Rattle.ba_ends.specs.Ends.{same_id}
 use Rattle.ba_scope.specs.Scope.{ScopeState, has_id, is_id_above, is_own_id}
 use Rattle.ba_scope.specs.declared.answers.EnrolFault.{EnrolFault}
 use Rattle.ba_scope.specs.declared.answers.EnrolFault.TheVariants.{Full, NotYetEnrolled, Sealed}

@@ -1,5 +1,5 @@
 -- The plans of ticks: what an object says, and what changes where it stands.
-use Rattle.std.proofs.Common.{◌≡◌, ℕ, ◌+◌, ◌*◌, ◌^◌, ◌<◌, Bool, true, false, not, ◌||◌, ◌&&◌, Option, None, Some, IsTrue, slice_get, refl, sym, ap, ◌∙◌, subst, true≢false, if◌then◌else◌, arith}
+use Rattle.std.proofs.Common.{◌≡◌, ℕ, ◌+◌, ◌*◌, ◌^◌, ◌<◌, Bool, true, false, not, ◌||◌, ◌&&◌, Option, None, Some, refl, sym, ap, ◌∙◌, subst, if◌then◌else◌, arith}
 use Rattle.std.specs.Option.{option_map}
 use Rattle.ba_core.specs.PartRows.{part_says}
 use Rattle.ba_core.specs.declared.identifiers.Id.{Id}
@@ -27,8 +27,8 @@ use Rattle.ba_ends.specs.declared.parts.Part.{Part}
 use Rattle.ba_steps.proofs.Objects.{end_here, lone_here, up_here}
 use Rattle.ba_steps.proofs.Own.{end_changed, expire_own, tick_up_own, tick_who}
 use Rattle.ba_steps.proofs.Places.{end_found}
-use Rattle.ba_steps.specs.Fits.{IsIdAt, NodeFits}
-use Rattle.ba_steps.specs.Node.{EndPlace, NodeState, PartPlace, end_place, lone, nowhere, part_place, scope_with_id, upward, with_lone, with_scope}
+use Rattle.ba_steps.specs.Fits.{IsIdAt}
+use Rattle.ba_steps.specs.Node.{NodeState, PartPlace, end_place, lone, part_place, scope_with_id, upward, with_scope}
 use Rattle.ba_steps.specs.Steps.{if_found, is_registering_state, same_part_state}
 use Rattle.ba_steps.specs.Ticks.{TickStep, end_letter, letter_step, part_letter, register_letter, tick_at_end, tick_at_part, tick_at_scope, tick_lone, tick_step, tick_upward, ticked_step}
 use Rattle.ba_steps.specs.declared.answers.Wake.TheVariants as wake

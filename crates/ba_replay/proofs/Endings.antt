@@ -1,5 +1,5 @@
 -- The lines after the last event, number by number: for `show_objects`, `show_node` and `show_ending`, clause `shown`.
-use Rattle.std.proofs.Common.{◌≡◌, ℕ, zero, suc, ◌+◌, ◌-◌, ◌<◌, ◌≤◌, Bool, true, false, ◌&&◌, nat_le, length, List, [], ◌∷◌, ◌++◌, map, Option, None, Some, refl, sym, ap, ◌∙◌, subst, append-nil, append_assoc, arith, if◌then◌else◌}
+use Rattle.std.proofs.Common.{◌≡◌, ℕ, zero, suc, ◌+◌, ◌-◌, ◌<◌, ◌≤◌, Bool, true, false, ◌&&◌, nat_le, length, List, [], ◌∷◌, ◌++◌, map, None, refl, sym, ap, ◌∙◌, subst, append-nil, append_assoc, arith, if◌then◌else◌}
 use Rattle.ba_core.specs.Numbers.{id_of, node_of}
 use Rattle.ba_core.specs.declared.identifiers.Id.{Id}
 use Rattle.ba_events.specs.Outcomes.{summary_line}
@@ -12,7 +12,6 @@ use Rattle.ba_runs.specs.World.{Mode, is_closed, is_down, is_up}
 use Rattle.std.proofs.lemmas.Bool.{le-leb}
 use Rattle.ba_steps.specs.Node.{NodeState, id_at}
 use Rattle.ba_steps.specs.Shown.{seen_at}
-use Rattle.ba_steps.specs.declared.answers.Seen.{Seen}
 use Rattle.ba_tree.specs.Trees.{joined}
 use Rattle.ba_world.specs.Worlds.{IsWorldOf, WorldValue, is_node_up, is_running, seen_in}
 use Rattle.ba_replay.specs.inside.WorldPlays.{object_lines}

@@ -1,5 +1,5 @@
 -- What a replay promises, from what its script and its play were: for `replay`, clauses `done` and `stops`.
-use Rattle.std.proofs.Common.{◌≡◌, ℕ, true, false, List, Option, Some, None, [], IfSome, refl, ◌∙◌, inl, inr}
+use Rattle.std.proofs.Common.{◌≡◌, ℕ, false, List, Option, Some, None, [], IfSome, refl, ◌∙◌, inl, inr}
 use Rattle.std.specs.Io.KnownBytes.{Appends}
 use Rattle.ba_pair.proofs.Safety.{plays_are_safe}
 use Rattle.ba_replay.specs.declared.plays.PlayFault.{PlayFault}
@@ -8,7 +8,6 @@ use Rattle.ba_core.specs.declared.protocols.Protocol.{Protocol}
 use Rattle.ba_pair.specs.PairPlay.{Numbered, play}
 use Rattle.ba_pair.specs.PairState.{starting_pair}
 use Rattle.ba_script.specs.declared.scripts.Script.TheVariants.{Pair, World}
-use Rattle.ba_replay.specs.declared.faults.ReplayFault.TheVariants as fault
 use Rattle.ba_script.specs.declared.scripts.ScriptFault.{ScriptFault}
 use Rattle.ba_script.specs.declared.scripts.ScriptFault.TheVariants as script
 use Rattle.ba_replay.specs.Replay.{PrintsWhole, StopsReplay}

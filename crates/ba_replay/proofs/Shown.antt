@@ -1,9 +1,9 @@
 -- Lines that are shown, of which the last ones are held: for each function that shows lines of a world's play, clause `shown`.
-use Rattle.std.proofs.Common.{◌≡◌, ℕ, List, [], ◌∷◌, ◌++◌, Option, Some, None, Result, Ok, Err, OnOk, IfErr, refl, sym, ap, ◌∙◌, subst, inl, inr, append-nil, append_assoc}
+use Rattle.std.proofs.Common.{◌≡◌, ℕ, List, [], ◌∷◌, ◌++◌, Option, Result, Ok, Err, OnOk, IfErr, refl, sym, ap, ◌∙◌, subst, inl, inr, append-nil, append_assoc}
 use Rattle.std.proofs.KnownBytes.{Appends-trans, Appends-nil}
-use Rattle.std.specs.Io.KnownBytes.{Appends, Keeps}
+use Rattle.std.specs.Io.KnownBytes.{Appends}
 use Rattle.ba_ports.proofs.Due.{keeps_appends, part_before, writes_on}
-use Rattle.ba_ports.specs.Outputs.{Writes, WritesPart}
+use Rattle.ba_ports.specs.Outputs.{WritesPart}
 use Rattle.ba_tree.specs.Trees.{joined}
 use Rattle.ba_replay.specs.WorldReplay.{WritesFirstOf}
 use Rattle.ba_replay.specs.declared.plays.PlayFault.{PlayFault}

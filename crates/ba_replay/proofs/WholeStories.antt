@@ -1,12 +1,10 @@
 -- A play of a world from its first line to its answer: for `play_world`.
-use Rattle.std.proofs.Common.{◌≡◌, ℕ, List, [], ◌∷◌, ◌++◌, map, Option, None, Some, Result, Ok, Err, OnOk, IfErr, refl, sym, ap, ◌∙◌, subst, append-nil, append_assoc}
-use Rattle.std.proofs.KnownBytes.{Appends-nil}
+use Rattle.std.proofs.Common.{◌≡◌, ℕ, List, [], ◌∷◌, ◌++◌, map, Option, None, Some, Result, Ok, Err, OnOk, IfErr, refl, sym, ap, ◌∙◌, subst, append-nil}
 use Rattle.std.specs.Io.KnownBytes.{Appends}
 use Rattle.ba_memory.specs.DiskValue.{DiskValue}
 use Rattle.ba_play.specs.Plays.{WorldOnDisks}
 use Rattle.ba_play.specs.Shows.{Halt, Story, ending_lines, event_line, story_lines, story_text}
 use Rattle.ba_play.specs.declared.missing.Missing.{Missing}
-use Rattle.ba_play.specs.declared.missing.Missing.TheVariants as missing
 use Rattle.ba_tree.specs.Trees.{joined}
 use Rattle.ba_world.specs.Worlds.{AreDisksOf}
 use Rattle.ba_replay.proofs.Shown.{broken_before, broken_written, written_on}

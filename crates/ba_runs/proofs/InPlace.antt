@@ -19,7 +19,6 @@ use Rattle.ba_core.specs.declared.states.PState.{PState}
 use Rattle.ba_core.specs.declared.states.PState.TheVariants as part
 use Rattle.ba_link.specs.Fits.{HasEndRow}
 use Rattle.ba_link.specs.Link as link
-use Rattle.ba_link.specs.Link.{to_end, to_part}
 use Rattle.ba_link.proofs.Kept.{end_in_place, part_in_place}
 use Rattle.ba_message.specs.declared.messages.Letter.{Letter}
 use Rattle.ba_message.specs.declared.messages.Message.TheVariants as message

@@ -14,7 +14,7 @@ use Rattle.ba_core.specs.declared.rows.CRow.TheVariants as crow
 use Rattle.ba_core.specs.declared.states.CState.{CState}
 use Rattle.ba_core.specs.declared.states.PState.{PState}
 use Rattle.ba_link.specs.Link as link
-use Rattle.ba_link.specs.Link.{LinkState, Message, asks_part, chooses, chosen_link, completed_link, completes, end_moved_link, end_receives, end_ticks, enrolled_link, enrols, heard_by, moved_link, register, registered, seals, settled_state, tells_part, to_end, to_part, with_end}
+use Rattle.ba_link.specs.Link.{LinkState, Message, asks_part, chooses, chosen_link, completed_link, completes, end_moved_link, end_receives, end_ticks, enrolled_link, enrols, moved_link, register, registered, seals, settled_state, tells_part, to_end, to_part, with_end}
 use Rattle.ba_message.specs.Endpoints.{same_epr}
 use Rattle.ba_message.specs.declared.endpoints.Epr.{Epr}
 use Rattle.ba_message.proofs.FitTests.{endpoint_itself}

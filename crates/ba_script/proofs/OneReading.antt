@@ -1,5 +1,5 @@
 -- A text is a script in one way, or none, and is bad at one place: for the law `scripts_mean_one_thing`.
-use Rattle.std.proofs.Common.{◌≡◌, ℕ, ◌+◌, ◌≤◌, Option, None, Some, List, [], ◌∷◌, length, take, zero, suc, sym, ap, ◌∙◌, subst, inl, inr, arith}
+use Rattle.std.proofs.Common.{◌≡◌, ℕ, ◌+◌, ◌≤◌, Option, None, Some, List, [], ◌∷◌, take, zero, suc, sym, ap, ◌∙◌, subst, inl, inr, arith}
 use Rattle.ba_core.specs.declared.protocols.Protocol.{Protocol}
 use Rattle.ba_forms.specs.Readings.{IsLine, bad_column}
 use Rattle.ba_forms.specs.declared.readings.Form.{Form}
@@ -10,7 +10,7 @@ use Rattle.ba_pair.specs.PairPlay.{Numbered}
 use Rattle.ba_ports.specs.Lines.{lines_of}
 use Rattle.ba_script.specs.Scripts.{form_after, onto_script, MeansScript, StopsAt, IsScript, IsPairScript, IsBadScript, IsLongScript}
 use Rattle.ba_script.specs.declared.scripts.Script.{Script}
-use Rattle.ba_script.specs.declared.scripts.Script.TheVariants.{Pair, World}
+use Rattle.ba_script.specs.declared.scripts.Script.TheVariants.{Pair}
 
 -- a line that says something isn't bad
 not_bad : (form : Option Form) (r : Reading) (line : List ℕ) (column : ℕ) → IsLine form r line → bad_column form line ≡ Some column → ⊥

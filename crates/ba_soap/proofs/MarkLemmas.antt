@@ -1,7 +1,7 @@
 -- A parameter with its mark is one, and is read back without it: for the law on envelopes.
 use Rattle.std.proofs.Common.{◌≡◌, ℕ, Bool, true, false, not, ◌&&◌, ◌||◌, List, [], ◌∷◌, ◌++◌, Option, Some, map, filter, cond, if◌then◌else◌, codes, refl, sym, ap, ◌∙◌}
 use Rattle.std.specs.Cmp.{first_so, second_so}
-use Rattle.std.specs.List.{list_all, list_any}
+use Rattle.std.specs.List.{list_any}
 use Rattle.std.specs.Ordering.{is_lt}
 use Rattle.ba_message.specs.Endpoints.{are_unmarked, marks_parameter}
 use Rattle.ba_shape.specs.Endpoints.{unmarked_tree}

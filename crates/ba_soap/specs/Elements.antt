@@ -3,7 +3,6 @@
 use Rattle.std.specs.Prelude.{◌≡◌, ℕ, Bool, true, ◌&&◌, List, [], ◌∷◌, ◌++◌, Option, Some, None, if◌then◌else◌, map, IsTrue, codes}
 use Rattle.std.specs.Ordering.{is_lt}
 use Rattle.ba_tree.specs.declared.trees.Tree.{Tree}
-use Rattle.ba_tree.specs.declared.trees.Name.{Name}
 use Rattle.ba_tree.specs.declared.trees.Attribute.{Attribute}
 use Rattle.ba_tree.specs.declared.trees.Content.TheVariants.{Child, Text}
 use Rattle.ba_tree.specs.Characters.{has_bare_ends}

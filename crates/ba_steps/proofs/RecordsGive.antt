@@ -14,7 +14,7 @@ use Rattle.ba_record.specs.declared.records.Record.{Record}
 use Rattle.ba_record.specs.declared.records.Record.TheVariants as journal
 use Rattle.ba_steps.specs.declared.inputs.Input.TheVariants as input
 use Rattle.ba_steps.specs.Endpoints.{AllReachable, GivesFit}
-use Rattle.ba_steps.specs.Lawful.{Event, given, ticked, act_event, after_record, change, chosen_event, create_event, enacted_again, event_of, is_next, refused_event}
+use Rattle.ba_steps.specs.Lawful.{Event, given, act_event, after_record, change, chosen_event, create_event, enacted_again, event_of, is_next, refused_event}
 use Rattle.ba_steps.specs.Node.{NodeState, PartPlace, upward}
 use Rattle.ba_steps.specs.Steps.{choice_number, complete_number}
 use Rattle.ba_steps.proofs.EndpointsKept.{step_reaches}

@@ -1,5 +1,5 @@
 -- What an answer says of bytes: for the clauses of `decode`.
-use Rattle.std.proofs.Common.{◌≡◌, ◌≢◌, ℕ, List, Result, Ok, Err, refl, sym, ap, ◌∙◌, subst}
+use Rattle.std.proofs.Common.{◌≡◌, ◌≢◌, ℕ, List, Result, Ok, Err, refl, sym, subst}
 use Rattle.std.specs.Prelude.{IfOk, IfErr}
 use Rattle.ba_soap.specs.Envelopes.{soap11}
 use Rattle.ba_tree.specs.declared.trees.Tree.{Tree}

@@ -1,5 +1,5 @@
 -- Each message is read back from its body element: for the law on messages.
-use Rattle.std.proofs.Common.{◌≡◌, ℕ, Bool, true, false, ◌&&◌, List, [], ◌∷◌, ◌++◌, Option, Some, None, filter, if◌then◌else◌, bytes_eq, refl, ap, ◌∙◌, codes}
+use Rattle.std.proofs.Common.{◌≡◌, ℕ, true, List, [], ◌∷◌, ◌++◌, Option, Some, None, filter, if◌then◌else◌, bytes_eq, refl, ap, ◌∙◌, codes}
 use Rattle.std.specs.Prelude.{is_some}
 use Rattle.std.specs.Cmp.{first_so, second_so}
 use Rattle.ba_core.specs.Texts.{code_text, state_text}
@@ -18,7 +18,7 @@ use Rattle.ba_message.specs.declared.messages.Context.{Context}
 use Rattle.ba_message.specs.declared.messages.Message.{Message}
 use Rattle.ba_message.specs.declared.messages.Message.TheVariants as message
 use Rattle.ba_shape.specs.declared.forms.Plain.TheVariants as plain
-use Rattle.ba_shape.specs.Elements.{own_texts, text_of}
+use Rattle.ba_shape.specs.Elements.{own_texts}
 use Rattle.ba_shape.specs.Endpoints.{child_at, text_in}
 use Rattle.ba_shape.specs.Forms.{is_qname, local_part, mismatch_unless, plain_look}
 use Rattle.ba_shape.specs.Shapes.{Line, names}
@@ -29,12 +29,11 @@ use Rattle.ba_soap.specs.Elements.{is_bare_text}
 use Rattle.ba_tree.specs.Characters.{has_bare_ends}
 use Rattle.ba_tree.specs.declared.trees.Name.{Name}
 use Rattle.ba_tree.specs.declared.trees.Tree.{Tree}
-use Rattle.ba_wire.specs.declared.bodies.Body.{Body}
 use Rattle.ba_wire.specs.declared.bodies.Body.TheVariants as body
 use Rattle.ba_wire.specs.declared.forms.Whole.{Whole}
 use Rattle.ba_wire.specs.Bodies.{body_look, code_of, context_in, coordination_context_line, coordination_type_line, coordinator_service_line, current_context_line, empty_context, endpoint_in, expires_line, fault_code_line, in_whole, is_upward, kind_of, lines_of_body, message_of, number_in, participant_service_line, protocol_identifier_line, protocol_of, state_line, state_of, up_in, upward_line, value_or, whole_look}
 use Rattle.ba_wire.specs.Contexts.{IsPlainContext, TimeFits}
-use Rattle.ba_wire.specs.Elements.{bare_name, body_element, body_of_message, body_of_notice, body_parts, context_element, current_part, expires_part, family_of, own_name, prefix_of_family, protocol_uri, text_in_element, type_part, upward_part, wsba_name, wscoor_name}
+use Rattle.ba_wire.specs.Elements.{bare_name, body_element, body_of_message, body_parts, current_part, expires_part, family_of, own_name, prefix_of_family, protocol_uri, text_in_element, type_part, upward_part, wsba_name, wscoor_name}
 use Rattle.ba_wire.specs.Envelopes.{ContextFits, ContextTimeFits, EndpointsFit, TimesFit, has_bare_identifiers, is_bare_context, is_known, is_known_context}
 use Rattle.ba_wire.proofs.WrittenContexts.{context_holds, context_is, expires_read, fine_by, kind_fine, kind_read, number_fine, text_fine, text_is}
 

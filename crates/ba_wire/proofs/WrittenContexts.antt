@@ -1,12 +1,11 @@
 -- A context is read back from its element: for the clause of `tree_of_context` and the law on messages.
-use Rattle.std.proofs.Common.{◌≡◌, ℕ, Bool, true, false, ◌&&◌, List, [], ◌∷◌, ◌++◌, Option, Some, None, Result, Ok, Err, map, filter, refl, sym, ap, ◌∙◌, subst, codes}
+use Rattle.std.proofs.Common.{◌≡◌, ℕ, true, List, [], ◌∷◌, Option, Some, None, Result, Ok, Err, filter, refl, sym, ap, ◌∙◌, subst, codes}
 use Rattle.std.specs.Prelude.{IfOk, is_some}
 use Rattle.std.specs.Cmp.{first_so, second_so}
 use Rattle.std.specs.Fmt.{decimal}
 use Rattle.ba_core.specs.declared.memory.Memory.{Memory}
 use Rattle.ba_core.specs.declared.protocols.Kind.{Kind}
 use Rattle.ba_core.specs.declared.protocols.Kind.TheVariants.{Atomic, Mixed}
-use Rattle.ba_message.specs.Endpoints.{Fits}
 use Rattle.ba_message.specs.declared.endpoints.Epr.{Epr}
 use Rattle.ba_message.specs.declared.messages.Context.{Context}
 use Rattle.ba_shape.specs.declared.forms.Plain.TheVariants as plain

@@ -1,5 +1,5 @@
 -- What is written of a route and a message means them: for the law `messages_are_read_back`.
-use Rattle.std.proofs.Common.{◌≡◌, ℕ, Bool, true, false, not, ◌||◌, List, Option, Some, None, Result, Ok, if◌then◌else◌, refl, ap, ◌∙◌}
+use Rattle.std.proofs.Common.{◌≡◌, ℕ, Bool, true, false, not, ◌||◌, List, Option, Some, None, Ok, if◌then◌else◌, refl, ap, ◌∙◌}
 use Rattle.std.specs.Prelude.{is_some}
 use Rattle.ba_core.specs.declared.notices.Notice.TheVariants as notice
 use Rattle.ba_message.specs.declared.messages.Message.{Message}
@@ -15,7 +15,7 @@ use Rattle.ba_wire.specs.declared.elements.Family.TheVariants as family
 use Rattle.ba_wire.specs.declared.routes.Route.{Route}
 use Rattle.ba_wire.specs.Elements.{body_of_message, family_of}
 use Rattle.ba_wire.specs.Envelopes.{CanEncode, HasEnvelope, TimesFit, action_for, envelope_of, envelope_text, envelope_tree, fault_action, is_numbered}
-use Rattle.ba_wire.specs.Meaning.{Means, answer_by_envelope, answer_by_reply, answer_by_shape, answer_of_body, asks_for_reply, reply_refusal, reply_rule, which_body}
+use Rattle.ba_wire.specs.Meaning.{Means, answer_by_envelope, answer_by_reply, answer_by_shape, answer_of_body, asks_for_reply, reply_rule, which_body}
 use Rattle.ba_wire.proofs.WrittenBodies.{IsReadBack, body_reads_back}
 use Rattle.ba_xml.proofs.RoundTrip.{round_trip}
 use Rattle.ba_xml_grammar.specs.GrammarTexts.{IsXmlText}

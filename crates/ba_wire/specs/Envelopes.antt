@@ -16,7 +16,6 @@ use Rattle.ba_soap.specs.Elements.{envelope_element, is_bare_text, is_none_or_ba
 use Rattle.ba_soap.specs.Envelopes.{soap11}
 use Rattle.ba_tree.specs.declared.trees.Tree.{Tree}
 use Rattle.ba_tree.specs.Namespaces.{wsa_space, wscoor_space}
-use Rattle.ba_wire.specs.declared.bodies.Body.{Body}
 use Rattle.ba_wire.specs.declared.bodies.Body.TheVariants as body
 use Rattle.ba_wire.specs.declared.elements.Family.{Family}
 use Rattle.ba_wire.specs.declared.elements.Family.TheVariants as family

@@ -1,5 +1,5 @@
 -- What a reply shows, by the scope that the node makes next; for the clauses of inputs.
-use Rattle.std.proofs.Common.{◌≡◌, ℕ, ◌+◌, Bool, true, false, Some, refl}
+use Rattle.std.proofs.Common.{◌≡◌, Some, refl}
 use Rattle.ba_play.specs.Outcomes.{made_outcome, reply_outcome}
 use Rattle.ba_steps.specs.Node.{NodeState}
 use Rattle.ba_steps.specs.declared.answers.Reply.{Reply}

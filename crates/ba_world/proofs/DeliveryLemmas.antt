@@ -1,5 +1,5 @@
 -- What a delivery makes of what is played is its effect; for the clauses of `deliver`.
-use Rattle.std.proofs.Common.{◌≡◌, ℕ, ◌+◌, Bool, true, false, List, [], ◌∷◌, ◌++◌, length, Option, None, Some, Result, Ok, Err, refl, sym, ap, ◌∙◌, subst, if◌then◌else◌}
+use Rattle.std.proofs.Common.{◌≡◌, ℕ, ◌+◌, Bool, true, false, [], ◌∷◌, ◌++◌, length, Option, None, Some, Result, Ok, Err, refl, sym, ap, ◌∙◌, subst, if◌then◌else◌}
 use Rattle.std.specs.Option.{option_to_list}
 use Rattle.ba_arrivals.specs.declared.mails.Mail.TheVariants as mail
 use Rattle.ba_core.specs.declared.identifiers.Id.{Id}
@@ -19,7 +19,7 @@ use Rattle.ba_play.specs.Plays.{WorldEffect, WorldOnDisks, deliver, delivery_by_
 use Rattle.ba_play.specs.declared.missing.Missing.TheVariants as missing
 use Rattle.ba_runs.proofs.Recorded.{run_keeps}
 use Rattle.ba_runs.specs.World as runs
-use Rattle.ba_runs.specs.World.{WorldNode, delivers, net_of, node_at}
+use Rattle.ba_runs.specs.World.{WorldNode, delivers, net_of}
 use Rattle.ba_runs.specs.WorldSteps.{answer_to}
 use Rattle.ba_steps.specs.Endpoints.{GivesFit}
 use Rattle.ba_steps.specs.Lawful.{given}
@@ -34,8 +34,8 @@ use Rattle.ba_world.specs.declared.faults.StepFault.{StepFault}
 use Rattle.ba_world.specs.declared.faults.StepFault.TheVariants as fault
 use Rattle.ba_world.specs.declared.messages.Delivery.{Delivery}
 use Rattle.ba_world.specs.declared.outcomes.Makes.{Makes}
-use Rattle.ba_world.specs.inside.Shown.{is_child, next_made, reply_shown}
-use Rattle.ba_world.specs.inside.Stages.{AreMade, Arrives, IsArrival, IsCalled, IsReplyAt, IsReplySent, StageIsPlayedAs, answer_of_reply, node_call_at, number_answered}
+use Rattle.ba_world.specs.inside.Shown.{reply_shown}
+use Rattle.ba_world.specs.inside.Stages.{AreMade, Arrives, IsArrival, IsCalled, IsReplyAt, IsReplySent, StageIsPlayedAs, node_call_at, number_answered}
 
 -- ---- which message
 

@@ -1,5 +1,5 @@
 -- Where the messages of a world go, and the context of a scope as it is handed in; for the clauses of messages.
-use Rattle.std.proofs.Common.{◌≡◌, ◌∙◌, ℕ, ◌%◌, ◌/◌, ◌^◌, ◌<◌, List, map, Option, Some, Ok, sym, ap, subst, arith}
+use Rattle.std.proofs.Common.{◌≡◌, ◌∙◌, ℕ, ◌^◌, ◌<◌, List, map, Option, Some, Ok, sym, ap, subst, arith}
 use Rattle.ba_arrivals.specs.Mails.{mail_of}
 use Rattle.ba_core.specs.Numbers.{node_of}
 use Rattle.ba_core.specs.declared.identifiers.Id.{Id}

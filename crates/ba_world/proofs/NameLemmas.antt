@@ -1,11 +1,11 @@
 -- An input that names a scope: its context is handed in. For the clauses of `create` and `join`.
-use Rattle.std.proofs.Common.{◌≡◌, ℕ, Option, None, Some, Result, Ok, Err, refl, sym, subst}
+use Rattle.std.proofs.Common.{ℕ, Option, Some, Result, Ok, Err, refl, sym, subst}
 use Rattle.ba_core.specs.declared.identifiers.Id.{Id}
 use Rattle.ba_core.specs.declared.protocols.Kind.{Kind}
 use Rattle.ba_core.specs.declared.protocols.Protocol.{Protocol}
 use Rattle.ba_events.specs.declared.outcomes.Outcome.{Outcome}
 use Rattle.ba_message.specs.declared.messages.Context.{Context}
-use Rattle.ba_play.specs.Plays.{EventEffect, WorldOnDisks, create_at, join_at, own_at, scope_named, with_scope_named}
+use Rattle.ba_play.specs.Plays.{EventEffect, WorldOnDisks, create_at, join_at, own_at, with_scope_named}
 use Rattle.ba_play.specs.declared.missing.Missing.TheVariants as missing
 use Rattle.ba_scope.specs.Scope.{ScopeState}
 use Rattle.ba_steps.specs.Steps.{if_found}

@@ -1,38 +1,37 @@
 -- What is read is fit: lawful names and characters, attributes in rising order, texts that are not empty and stand apart.
-use Rattle.std.proofs.Common.{◌≡◌, ℕ, ◌+◌, ◌<◌, ◌⊎◌, inl, inr, Bool, true, false, cond, not, ◌&&◌, ◌==◌, nat_lt, Option, Some, None, List}
+use Rattle.std.proofs.Common.{◌≡◌, ℕ, ◌+◌, ◌<◌, inl, inr, Bool, true, false, cond, not, ◌&&◌, ◌==◌, Option, Some, None, List}
 use Rattle.std.proofs.Common.{[], ◌∷◌, ◌++◌, map, length, codes, refl, sym, ap, ◌∙◌, subst, arith, true≢false}
 use Rattle.std.proofs.lemmas.Bool.{eqb-true, and_parts}
 use Rattle.std.proofs.lemmas.Bool.Decides.{nat_tests}
 use Rattle.std.proofs.lemmas.List.Folds.{list_all-append}
 use Rattle.std.proofs.lemmas.Slice.Eq.{bytes_eq-Decides}
-use Rattle.std.specs.Char.{encode_utf8}
 use Rattle.std.specs.List.{list_all}
 use Rattle.std.specs.Str.{bytes_eq}
 use Rattle.ba_tree.proofs.TreeLaws.{within_text, within_child}
 use Rattle.ba_tree.proofs.TreeRules.{fit_alone, fit_in}
 use Rattle.ba_tree.specs.Characters.{is_legal_text}
 use Rattle.ba_tree.specs.Names.{begins_name, continues_name, is_plain_name}
-use Rattle.ba_tree.specs.Trees.{Part, all_adjacent, element_of, within, elements, rises, declares, is_fit_name, is_fit_attribute}
+use Rattle.ba_tree.specs.Trees.{all_adjacent, element_of, within, elements, rises, declares, is_fit_name, is_fit_attribute}
 use Rattle.ba_tree.specs.Trees.{is_fit_part, is_text, is_fit_element, is_fit_tree}
 use Rattle.ba_tree.specs.declared.trees.Attribute.{Attribute}
 use Rattle.ba_tree.specs.declared.trees.Content.{Content}
 use Rattle.ba_tree.specs.declared.trees.Content.TheVariants.{Child, Text}
 use Rattle.ba_tree.specs.declared.trees.Name.{Name}
 use Rattle.ba_tree.specs.declared.trees.Tree.{Tree}
-use Rattle.ba_xml_grammar.specs.Grammar.{Value, Pair, Start, Pieces, nothing, character, reference, section, comment, empty, element}
-use Rattle.ba_xml_grammar.specs.Grammar.{written, written_value, written_pair, written_pairs, written_tag, written_end, value_of}
-use Rattle.ba_xml_grammar.specs.Grammar.{attribute, tag, or_nothing, meant, element_tree, leading, if_some, following, meaning, IsPair}
+use Rattle.ba_xml_grammar.specs.Grammar.{Pair, Start, Pieces, nothing, character, reference, section, comment, empty, element}
+use Rattle.ba_xml_grammar.specs.Grammar.{written, written_value, written_pairs, written_tag, written_end, value_of}
+use Rattle.ba_xml_grammar.specs.Grammar.{attribute, tag, or_nothing, meant, element_tree, leading, if_some, following, meaning}
 use Rattle.ba_xml_grammar.specs.Grammar.{ArePairs, IsStart, Allowed, IsExplained, Resolves, Misc, misc_end, misc_space, misc_comment}
 use Rattle.ba_xml_grammar.specs.Grammar.{Saying, Encoding, no_encoding, encoding, Standalone, no_standalone, standalone, Head, no_head}
-use Rattle.ba_xml_grammar.specs.Grammar.{head, Document, written_comment, written_misc, written_saying, written_encoding, yes_or_no}
+use Rattle.ba_xml_grammar.specs.Grammar.{head, Document, written_misc, written_saying, written_encoding, yes_or_no}
 use Rattle.ba_xml_grammar.specs.Grammar.{written_standalone, written_heading, written_mark, written_document, IsMisc, IsRoot}
 use Rattle.ba_xml_grammar.specs.GrammarTexts.{lines, IsXmlText}
-use Rattle.ba_xml_grammar.specs.GrammarWords.{Each, IsPlainName, IsName, is_name_letter, written_name, IsQuote, character_of}
+use Rattle.ba_xml_grammar.specs.GrammarWords.{Each, IsPlainName, IsName, is_name_letter, written_name, IsQuote}
 use Rattle.ba_xml_names.proofs.OpeningRules.{by_rule}
 use Rattle.ba_tree.specs.Namespaces.{xml_space}
 use Rattle.ba_xml_names.specs.Namespaces.{opening, first_scope}
-use Rattle.ba_xml_names.specs.Resolution.{DeclaresNothing, Declares, AreDeclarations, AreLawful, prefix_declared, IsNearest}
-use Rattle.ba_xml_names.specs.Resolution.{IsAttributeName, IsAttribute, AreAttributes, PutAmong, AreInOrder, IsMeaning}
+use Rattle.ba_xml_names.specs.Resolution.{DeclaresNothing, AreDeclarations, AreLawful, prefix_declared, IsNearest}
+use Rattle.ba_xml_names.specs.Resolution.{IsAttributeName, IsAttribute, AreAttributes, PutAmong, IsMeaning}
 use Rattle.ba_xml_names.specs.declared.levels.Declaration.{Declaration}
 use Rattle.ba_xml_names.specs.declared.levels.Opening.{Opening}
 use Rattle.ba_xml_reader.proofs.Complete.{legal_octets}

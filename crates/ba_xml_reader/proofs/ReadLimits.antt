@@ -1,12 +1,12 @@
 -- What is read has at most 32 levels, and at most 32 attributes in an element.
-use Rattle.std.proofs.Common.{◌≡◌, ℕ, ◌+◌, ◌≤◌, ◌⊎◌, inl, inr, max, Option, Some, None, List, [], ◌∷◌, ◌++◌, map, length, length-append}
+use Rattle.std.proofs.Common.{◌≡◌, ℕ, ◌+◌, ◌≤◌, inl, inr, max, Option, Some, None, List, [], ◌∷◌, ◌++◌, map, length, length-append}
 use Rattle.std.proofs.Common.{refl, sym, ap, ◌∙◌, subst, arith}
 use Rattle.std.proofs.lemmas.List.{length-map, map-append}
 use Rattle.ba_tree.proofs.TreeLaws.{within_text, within_child, levels_in, levels_text, levels_child, elements_in}
-use Rattle.ba_tree.specs.Trees.{Element, elements, element_of, within, greatest, joined, levels, levels_of, most_attributes}
+use Rattle.ba_tree.specs.Trees.{Element, elements, within, greatest, joined, levels, levels_of, most_attributes}
 use Rattle.ba_tree.specs.declared.trees.Attribute.{Attribute}
 use Rattle.ba_tree.specs.declared.trees.Content.{Content}
-use Rattle.ba_tree.specs.declared.trees.Content.TheVariants.{Child, Text}
+use Rattle.ba_tree.specs.declared.trees.Content.TheVariants.{Child}
 use Rattle.ba_tree.specs.declared.trees.Tree.{Tree}
 use Rattle.ba_xml_names.proofs.OpeningRules.{by_rule}
 use Rattle.ba_xml_reader.specs.Fitness.{IsWithinLimits}

@@ -26,7 +26,7 @@ use Rattle.ba_xml_reader.specs.declared.states.State.TheVariants as state
 use Rattle.ba_xml_reader.proofs.CompleteNames.{letter_kind}
 use Rattle.ba_xml_reader.proofs.CompleteSteps.{by_kind}
 use Rattle.ba_xml_reader.proofs.PutOn.{is_single, calm_scan, both, no, letter_fits, turn_on, once, name_runs}
-use Rattle.ba_xml_reader.proofs.Runs.{run_none, run_more, run_append}
+use Rattle.ba_xml_reader.proofs.Runs.{run_more, run_append}
 use Rattle.ba_xml_reader.proofs.WholePairs.{run_one}
 
 -- ---- the bytes of a beginning

@@ -3,8 +3,6 @@ use Rattle.std.proofs.Common.{◌≡◌, ℕ, ◌+◌, ◌-◌, ◌<◌, ◌≤�
 use Rattle.std.specs.List.{list_all}
 use Rattle.std.proofs.lemmas.List.{drop_all, length-take-le, length-drop, take_more}
 use Rattle.std.proofs.Math.Seq.{take-add}
-use Rattle.ba_xml_words.specs.Classes.{class_of, mark_of}
-use Rattle.ba_xml_words.specs.inside.Octets.{lead}
 use Rattle.ba_xml_words.specs.inside.Remaining.{is_front}
 use Rattle.ba_xml_names.specs.inside.Levels.{with_child, tree_of}
 use Rattle.ba_xml_reader.specs.inside.Machine.{run, turned}

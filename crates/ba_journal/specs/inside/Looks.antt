@@ -1,5 +1,5 @@
 -- Inside: calls of a disk that only look: its length is asked, or bytes are read.
-use Rattle.std.specs.Prelude.{◌≡◌, ◌≤◌, ℕ, Bool, List, [], ◌∷◌, ◌++◌, IsTrue}
+use Rattle.std.specs.Prelude.{◌≡◌, ◌≤◌, ℕ, Bool, List, [], IsTrue}
 use Rattle.ba_ports.specs.Disk.{NoMore, LeavesOnly, counted}
 use Rattle.ba_ports.specs.declared.requests.Call.{Call}
 use Rattle.ba_journal.specs.Loads.{EndsFailed}

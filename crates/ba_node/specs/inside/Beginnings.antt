@@ -1,5 +1,5 @@
 -- Inside: what a journal's records lead to, and the calls by which one without records is begun.
-use Rattle.std.specs.Prelude.{◌≡◌, ◌⊎◌, ℕ, ◌+◌, ◌<◌, ◌≤◌, ◌^◌, Bool, true, false, List, [], ◌∷◌, length, None, Result, Ok, Err, IsTrue, OnOk}
+use Rattle.std.specs.Prelude.{◌≡◌, ◌⊎◌, ℕ, ◌+◌, ◌<◌, ◌≤◌, ◌^◌, Bool, true, false, List, [], length, None, Result, Ok, Err, IsTrue, OnOk}
 use Rattle.ba_journal.specs.Frames.{StandsFor}
 use Rattle.ba_journal.specs.Journals.{IsSettled, JournalValue}
 use Rattle.ba_node.specs.Loading.{beginning, begun}

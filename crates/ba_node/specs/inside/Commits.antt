@@ -1,5 +1,5 @@
 -- Inside: what a change that is due makes of a node on its journal.
-use Rattle.std.specs.Prelude.{◌≡◌, ℕ, ◌≤◌, Bool, List, Option, Result, Err, OnOk, IsTrue}
+use Rattle.std.specs.Prelude.{◌≡◌, ℕ, ◌≤◌, Bool, List, Result, Err, OnOk, IsTrue}
 use Rattle.ba_journal.specs.Journals.{IsSettled}
 use Rattle.ba_node.specs.Answers.{IsAnswered}
 use Rattle.ba_node.specs.Keeping.{StandsWith, Stepped, with_record}

@@ -1,11 +1,10 @@
 -- Inside: lines that are shown, of which the last ones are held as a text; how far the events of a world were played; and how its
 -- play breaks off.
-use Rattle.std.specs.Prelude.{◌≡◌, ℕ, List, [], ◌∷◌, ◌++◌, map, Option, None, Some, Result, Ok, Err}
+use Rattle.std.specs.Prelude.{◌≡◌, ℕ, List, ◌++◌, map, Option, None, Some, Result, Ok, Err}
 use Rattle.std.specs.Io.KnownBytes.{Appends}
 use Rattle.std.specs.Option.{option_map, option_to_list}
 use Rattle.ba_core.specs.declared.identifiers.Id.{Id}
 use Rattle.ba_events.specs.Outcomes.{summary_line}
-use Rattle.ba_events.specs.declared.summaries.Summary.{Summary}
 use Rattle.ba_memory.specs.DiskValue.{DiskValue}
 use Rattle.ba_play.specs.Plays.{WorldOnDisks}
 use Rattle.ba_play.specs.Shows.{Halt, Story, object_summary, story_lines, story_text}

@@ -1,5 +1,5 @@
 -- Inside: what a reply shows, given what the node makes next.
-use Rattle.std.specs.Prelude.{ℕ, Bool, true, false, Some}
+use Rattle.std.specs.Prelude.{Bool, true, false, Some}
 use Rattle.ba_events.specs.declared.outcomes.Outcome.{Outcome}
 use Rattle.ba_events.specs.declared.outcomes.Outcome.TheVariants as outcome
 use Rattle.ba_places.specs.declared.calls.Answer.{Answer}

@@ -1,12 +1,11 @@
 -- Inside: what an event makes of the places of a world, by the parts in which it is played.
-use Rattle.std.specs.Prelude.{◌≡◌, ℕ, ◌+◌, ◌-◌, Bool, true, false, List, [], ◌∷◌, ◌++◌, length, nat_eq, slice_get, slice_set, Option, None, Some, is_some, Result, Ok, Err, if◌then◌else◌}
+use Rattle.std.specs.Prelude.{◌≡◌, ℕ, ◌+◌, ◌-◌, Bool, true, false, List, [], ◌∷◌, ◌++◌, length, nat_eq, slice_get, slice_set, Option, None, Some, Result, Ok, Err, if◌then◌else◌}
 use Rattle.ba_arrivals.specs.declared.mails.Mail.TheVariants as mail
 use Rattle.ba_core.specs.Numbers.{node_of}
 use Rattle.ba_core.specs.declared.identifiers.Id.{Id}
 use Rattle.ba_core.specs.declared.protocols.Kind.{Kind}
 use Rattle.ba_events.specs.declared.outcomes.Outcome.{Outcome}
 use Rattle.ba_events.specs.declared.outcomes.Outcome.TheVariants as outcome
-use Rattle.ba_memory.specs.DiskValue.{MediumValue}
 use Rattle.ba_message.specs.declared.messages.Context.{Context}
 use Rattle.ba_message.specs.declared.messages.Letter.{Letter}
 use Rattle.ba_message.specs.declared.messages.Message.{Message}
@@ -24,7 +23,7 @@ use Rattle.ba_play.specs.declared.missing.Missing.TheVariants as missing
 use Rattle.ba_ports.specs.Disk.{Armament}
 use Rattle.ba_runs.specs.Runs.{node_at_start}
 use Rattle.ba_runs.specs.World as runs
-use Rattle.ba_runs.specs.World.{Occasion, WorldNode, is_up, net_of, ticks}
+use Rattle.ba_runs.specs.World.{Occasion, is_up, net_of, ticks}
 use Rattle.ba_scope.specs.Scope.{ScopeState}
 use Rattle.ba_steps.specs.Steps.{node_step}
 use Rattle.ba_steps.specs.Ticks.{tick_step}

@@ -1,5 +1,5 @@
 -- Inside: references among characters that the reader takes at once. None of it is part of what the reader promises.
-use Rattle.std.specs.Prelude.{ℕ, Bool, true, false, cond, List, [], ◌∷◌, codes}
+use Rattle.std.specs.Prelude.{ℕ, Bool, true, false, cond, List, ◌∷◌, codes}
 use Rattle.ba_xml_names.specs.inside.Levels.{put}
 use Rattle.ba_xml_names.specs.declared.levels.Level.{Level}
 use Rattle.ba_xml_words.specs.declared.octets.Octet.{Octet}

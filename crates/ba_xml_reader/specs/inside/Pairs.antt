@@ -2,7 +2,6 @@
 use Rattle.std.specs.Prelude.{◌≡◌, ℕ, ◌+◌, ◌<◌, Bool, true, false, cond, ◌&&◌, ◌||◌, ◌==◌, not, nat_lt, List, [], Option, Some, None, length, take, drop, slice_index}
 use Rattle.std.specs.List.{list_all}
 use Rattle.ba_xml_names.specs.inside.Tags.{with_attribute}
-use Rattle.ba_xml_names.specs.declared.levels.Level.{Level}
 use Rattle.ba_xml_names.specs.declared.tags.Tag.{Tag}
 use Rattle.ba_xml_words.specs.inside.Names.{is_written}
 use Rattle.ba_xml_words.specs.declared.names.RawName.{RawName}

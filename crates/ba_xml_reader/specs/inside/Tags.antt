@@ -1,5 +1,5 @@
 -- Inside: what a byte does in start tags and end tags.
-use Rattle.std.specs.Prelude.{ℕ, List, [], ◌∷◌, ◌++◌, length, Bool, true, false, cond, ◌==◌, nat_lt, Option, Some, None, encode_utf8}
+use Rattle.std.specs.Prelude.{ℕ, List, [], ◌∷◌, length, Bool, true, false, cond, ◌==◌, nat_lt, Option, Some, None, encode_utf8}
 use Rattle.ba_xml_names.specs.inside.Levels.{settled, with_child, tree_of, child_level, empty_tree}
 use Rattle.ba_xml_words.specs.inside.Names.{spelled, one_letter, grown, is_written}
 use Rattle.ba_xml_names.specs.Namespaces.{opening, scope}

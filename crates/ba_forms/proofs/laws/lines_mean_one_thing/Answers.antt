@@ -1,4 +1,3 @@
-use Rattle.std.proofs.Common.{sym, ◌∙◌}
 use Rattle.ba_forms.proofs.Back.{line_is_one}
 use Rattle.ba_forms.proofs.Meanings.{line_means, line_is_good}
 use Rattle.ba_forms.proofs.laws.lines_mean_one_thing.Goals as goal

@@ -1,4 +1,3 @@
-use Rattle.std.proofs.Common.{◌≡◌}
 use Rattle.ba_http_writer.proofs.Phrases.{has_phrase}
 use Rattle.ba_http_writer.proofs.responses.phrase_of.Goals as goal
 

@@ -1,4 +1,4 @@
-use Rattle.std.proofs.Common.{◌≡◌, refl, sym, ap, ◌∙◌}
+use Rattle.std.proofs.Common.{refl}
 use Rattle.ba_http_writer.proofs.responses.text_of_response.Goals as goal
 
 pub returns : goal.returns

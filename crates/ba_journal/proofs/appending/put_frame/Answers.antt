@@ -1,4 +1,4 @@
-use Rattle.std.proofs.Common.{◌≡◌, ◌+◌, inl, inr, List, [], ◌∷◌, ◌++◌, length, refl, sym, ◌∙◌, ap, subst, arith, IsTrue, rules}
+use Rattle.std.proofs.Common.{◌≡◌, ◌+◌, inl, inr, [], ◌∷◌, ◌++◌, length, refl, sym, ◌∙◌, ap, subst, arith, IsTrue, rules}
 use Rattle.ba_ports.specs.Disk.{Done, Only, Torn, written_at}
 use Rattle.ba_ports.proofs.Moments.{started, goes_on}
 use Rattle.ba_journal.specs.Journals.{AtRest, StandsWithOrWithout}

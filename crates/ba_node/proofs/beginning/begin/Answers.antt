@@ -1,6 +1,5 @@
-use Rattle.std.proofs.Common.{◌≡◌, ◌≢◌, [], List, IfErr, IfOk, ◌<◌, ◌^◌, arith, rules, sym, ap, subst}
+use Rattle.std.proofs.Common.{◌≡◌, ◌≢◌, [], List, IfErr, IfOk, ◌<◌, ◌^◌, arith, rules, sym, subst}
 use Rattle.ba_node.specs.Loading.{RefusesLoad, begun}
-use Rattle.ba_node.specs.Nodes.{NodeHolds, on_journal}
 use Rattle.ba_node.specs.inside.Beginnings.{Begins, IsReplay}
 use Rattle.ba_node.proofs.Beginnings.{at_ok, begins_again, begun_same, few_of, holds_again}
 use Rattle.ba_objects.specs.Objects.{NodeInMemory}

@@ -1,4 +1,4 @@
-use Rattle.std.proofs.Common.{Ok, Err, [], IsTrue, ◌<◌, ◌^◌, arith, subst}
+use Rattle.std.proofs.Common.{IsTrue, ◌<◌, ◌^◌, arith, subst}
 use Rattle.ba_node.proofs.Beginnings.{begins_err, begins_ok, holds_new, replay_new}
 use Rattle.ba_node.proofs.beginning.begin_new.Goals as goal
 

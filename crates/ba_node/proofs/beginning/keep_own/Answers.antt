@@ -1,9 +1,8 @@
-use Rattle.std.proofs.Common.{◌≡◌, ℕ, List, [], Some, Ok, Err, rules, sym, subst}
-use Rattle.ba_node.specs.Loading.{RefusesLoad}
+use Rattle.std.proofs.Common.{◌≡◌, ℕ, List, [], Ok, Err, rules, sym, subst}
 use Rattle.ba_node.specs.declared.faults.LoadFault.{LoadFault}
 use Rattle.ba_node.specs.declared.faults.LoadFault.TheVariants as fault
 use Rattle.ba_node.specs.inside.Beginnings.{Begins, begin_fault_of}
-use Rattle.ba_node.proofs.Beginnings.{begins_failed, begins_kept, begins_not, keeping_refuses, memory_is_no_disk}
+use Rattle.ba_node.proofs.Beginnings.{begins_failed, begins_kept, begins_not, memory_is_no_disk}
 use Rattle.ba_node.proofs.beginning.keep_own.Goals as goal
 
 pub returns-in_default-clause-begins : goal.returns-in_default-clause-begins

@@ -1,6 +1,6 @@
-use Rattle.std.proofs.Common.{◌≡◌, Ok, Err, IsTrue, sym, ap, subst}
+use Rattle.std.proofs.Common.{Ok, IsTrue, sym, subst}
 use Rattle.ba_node.specs.Nodes.{NodeHolds, on_journal}
-use Rattle.ba_node.specs.inside.Commits.{Commits, IsDue}
+use Rattle.ba_node.specs.inside.Commits.{Commits}
 use Rattle.ba_node.proofs.Commits.{commits_done, commits_refused, due_fits, due_in_range, holds_after, holds_refused}
 use Rattle.ba_objects.specs.Changes.{changed_node}
 use Rattle.ba_steps.specs.Lawful.{Change}

@@ -1,10 +1,10 @@
-use Rattle.std.proofs.Common.{rules, ◌≡◌, ◌↔◌, ◌+◌, ◌++◌, ◌∷◌, [], ℕ, Option, None, Some, Ok, Err, true, false, List, length, IsTrue, ap, sym, ◌∙◌, subst, refl}
+use Rattle.std.proofs.Common.{Some, Ok, Err, true, false, List, length, IsTrue, ap, sym, ◌∙◌, subst}
 use Rattle.ba_journal.specs.Journals.{GoesPast, Asked}
 use Rattle.ba_journal.specs.Journals.{IsSettled, StandsWithOrWithout, appending, behind_gate}
 use Rattle.ba_journal.specs.declared.faults.JournalFault.TheVariants as fault
 use Rattle.ba_ports.specs.Disk.{LeavesOnly, InTurn}
 use Rattle.ba_ports.specs.declared.requests.Call.{Call}
-use Rattle.ba_record.specs.Coding.{coding, InRange}
+use Rattle.ba_record.specs.Coding.{coding}
 use Rattle.ba_record.specs.declared.records.Record.{Record}
 use Rattle.ba_node.proofs.Openness.{open_at_ok, open_at_disk, not_err, not_past, same_count}
 use Rattle.ba_journal.specs.declared.faults.JournalFault.{JournalFault}

@@ -1,5 +1,4 @@
-use Rattle.std.proofs.Common.{◌≡◌, [], None, Ok, Option, Result, Some, refl, sym, subst, ap, ◌∙◌, arith, rules}
-use Rattle.ba_node.specs.Keeping.{IsPast}
+use Rattle.std.proofs.Common.{[], None, Ok, Option, Result, refl, sym, subst, ◌∙◌, arith}
 use Rattle.ba_node.specs.inside.Kept.{IsKept}
 use Rattle.ba_node.proofs.Moments.{nothing_asked, some_is_no_none, none_is_no_some, ok_is_no_err}
 use Rattle.ba_node.specs.declared.faults.NodeFault.{NodeFault}

@@ -1,4 +1,4 @@
-use Rattle.std.proofs.Common.{◌≡◌, ℕ, ◌+◌, List, [], ◌∷◌, length, drop, Some, Ok, arith, ap, sym, subst, ◌∙◌, length-drop}
+use Rattle.std.proofs.Common.{◌≡◌, ℕ, ◌+◌, List, [], ◌∷◌, length, Ok, arith, ap, subst, ◌∙◌, length-drop}
 use Rattle.ba_node.specs.Loading.{RefusesLoad}
 use Rattle.ba_node.specs.declared.faults.LoadFault.TheVariants as fault
 use Rattle.ba_node.proofs.Histories.{Going, all_enacted, broke_off, going_begun, next_spare, place_small, went_on}

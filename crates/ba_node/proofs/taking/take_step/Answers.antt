@@ -1,6 +1,3 @@
-use Rattle.std.proofs.Common.{Ok, Err}
-use Rattle.ba_node.specs.Nodes.{on_journal}
-use Rattle.ba_node.specs.inside.Commits.{due_by_step}
 use Rattle.ba_node.proofs.Told.{told_err, told_ok}
 use Rattle.ba_node.proofs.taking.take_step.Goals as goal
 

@@ -1,4 +1,4 @@
-use Rattle.std.proofs.Common.{◌≡◌, ◌∙◌, None, Some, sym}
+use Rattle.std.proofs.Common.{◌∙◌, None, Some}
 use Rattle.ba_objects.proofs.Shows.{shows_inside}
 use Rattle.ba_objects.specs.Objects.{node_of}
 use Rattle.ba_steps.specs.Node.{NodeState}

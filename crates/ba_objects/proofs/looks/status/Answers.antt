@@ -1,4 +1,3 @@
-use Rattle.std.proofs.Common.{◌≡◌, ◌∙◌, refl, sym}
 use Rattle.ba_objects.proofs.Shows.{shows_end, shows_place, shows_scope}
 use Rattle.ba_objects.specs.Objects.{node_of}
 use Rattle.ba_steps.specs.Node.{NodeState, lone, nowhere, upward}

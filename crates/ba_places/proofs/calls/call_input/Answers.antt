@@ -1,4 +1,4 @@
-use Rattle.std.proofs.Common.{◌≡◌, false, Option, refl, sym, ◌∙◌, ap, subst}
+use Rattle.std.proofs.Common.{◌≡◌, false, refl, sym, ◌∙◌, ap, subst}
 use Rattle.ba_places.proofs.CallCases.{down_leads, taken_leads, untaken_leads, input_after, input_writes}
 use Rattle.ba_places.specs.Places.{Matches}
 use Rattle.ba_places.specs.declared.places.Place.TheVariants as place

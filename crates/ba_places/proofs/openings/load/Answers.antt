@@ -1,4 +1,4 @@
-use Rattle.std.proofs.Common.{◌≡◌, ◌<◌, ◌^◌, ℕ, false, arith, refl, sym, ◌∙◌, subst}
+use Rattle.std.proofs.Common.{◌≡◌, ◌<◌, ◌^◌, false, arith, refl, sym, ◌∙◌, subst}
 use Rattle.ba_places.proofs.OpeningLemmas.{IsLoaded, loaded_of, opened_leads, unopened_by}
 use Rattle.ba_places.proofs.StartLemmas.{base_is_one}
 use Rattle.ba_record.specs.Endpoints.{IsBase}

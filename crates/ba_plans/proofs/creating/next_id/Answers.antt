@@ -1,4 +1,3 @@
-use Rattle.std.proofs.Common.{◌≡◌, ◌+◌, ◌∙◌, arith}
 use Rattle.ba_steps.proofs.Members.{id_by_number}
 use Rattle.ba_steps.specs.Node.{next_id}
 use Rattle.ba_plans.proofs.creating.next_id.Goals as goal

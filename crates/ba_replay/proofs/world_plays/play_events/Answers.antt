@@ -1,4 +1,4 @@
-use Rattle.std.proofs.Common.{◌≡◌, ◌+◌, ◌++◌, ◌∷◌, [], ℕ, List, Err, None, arith, rules, subst, sym, ap, ◌∙◌, map, drop, get_or}
+use Rattle.std.proofs.Common.{◌+◌, ◌++◌, ◌∷◌, [], ℕ, List, Err, None, arith, subst, sym, map, drop, get_or}
 use Rattle.std.proofs.lemmas.List.{drop_all}
 use Rattle.ba_core.specs.declared.protocols.Kind.TheVariants.{Atomic}
 use Rattle.ba_events.specs.declared.events.Event.TheVariants as event

@@ -1,4 +1,4 @@
-use Rattle.std.proofs.Common.{◌≡◌, ◌+◌, ◌++◌, ◌≤◌, ◌∷◌, [], ℕ, List, Err, arith, subst, sym, ap, ◌∙◌, map, length}
+use Rattle.std.proofs.Common.{◌≡◌, ◌+◌, ◌≤◌, ◌∷◌, [], ℕ, List, Err, arith, subst, sym, map, length}
 use Rattle.ba_events.specs.Outcomes.{summary_line}
 use Rattle.ba_events.specs.declared.summaries.Summary.TheVariants as summary
 use Rattle.ba_play.specs.Shows.{node_summaries}

@@ -1,4 +1,4 @@
-use Rattle.std.proofs.Common.{◌∷◌, List, sym, ap, ◌∙◌, subst, map}
+use Rattle.std.proofs.Common.{◌∷◌, List, sym, ◌∙◌, subst, map}
 use Rattle.ba_events.specs.Outcomes.{summary_line}
 use Rattle.ba_events.specs.declared.summaries.Summary.{Summary}
 use Rattle.ba_replay.proofs.Endings.{node_down, node_up}

@@ -1,11 +1,10 @@
-use Rattle.std.proofs.Common.{◌≡◌, ◌+◌, ◌++◌, ◌∷◌, ℕ, List, Err, arith, subst, sym, ap, ◌∙◌, map}
+use Rattle.std.proofs.Common.{◌≡◌, ◌+◌, ◌∷◌, ℕ, List, Err, arith, subst, sym, map}
 use Rattle.ba_events.specs.Outcomes.{summary_line}
-use Rattle.ba_play.specs.Shows.{object_summaries, summaries_at}
+use Rattle.ba_play.specs.Shows.{summaries_at}
 use Rattle.ba_steps.specs.Node.{last}
-use Rattle.ba_world.specs.Worlds.{seen_in}
 use Rattle.ba_replay.proofs.Endings.{after_number, numbered, object_shown, one_more}
 use Rattle.ba_replay.proofs.Shown.{broken_at, held_start, shown_more}
-use Rattle.ba_replay.specs.inside.WorldPlays.{HoldsRest, AreLinesShown, object_lines}
+use Rattle.ba_replay.specs.inside.WorldPlays.{HoldsRest, AreLinesShown}
 use Rattle.ba_replay.proofs.world_plays.show_objects.Goals as goal
 
 pub returns-in-Err-clause-shown : goal.returns-in-Err-clause-shown

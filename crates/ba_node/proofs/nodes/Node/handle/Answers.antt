@@ -1,5 +1,5 @@
-use Rattle.std.proofs.Common.{◌≡◌, sym, ap, subst}
-use Rattle.ba_node.specs.Nodes.{NodeOnJournal, on_journal}
+use Rattle.std.proofs.Common.{sym, ap, subst}
+use Rattle.ba_node.specs.Nodes.{on_journal}
 use Rattle.ba_plans.specs.Plans.{planned_step}
 use Rattle.ba_node.specs.inside.Commits.{Commits, IsDue, due_by_step}
 use Rattle.ba_steps.specs.Lawful.{change, given}

@@ -1,4 +1,4 @@
-use Rattle.std.proofs.Common.{◌≡◌, sym, ap, subst}
+use Rattle.std.proofs.Common.{subst}
 use Rattle.ba_node.specs.Nodes.{on_journal}
 use Rattle.ba_node.proofs.Commits.{spare_of}
 use Rattle.ba_steps.specs.Fits.{HasSpareCounters, NodeFits}

@@ -1,16 +1,14 @@
-use Rattle.std.proofs.Common.{◌≡◌, ◌⊎◌, ◌<◌, ◌^◌, arith, List, [], ◌∷◌, ◌++◌, ℕ, false, Result, Ok, Err, IsTrue, refl, rules, subst, sym, ◌∙◌, ap}
-use Rattle.ba_journal.specs.Journals.{IsSettled, JournalValue}
-use Rattle.ba_journal.specs.Frames.{StandsFor}
+use Rattle.std.proofs.Common.{◌<◌, ◌^◌, arith, List, ◌++◌, Err, IsTrue, subst, sym, ap}
+use Rattle.ba_journal.specs.Journals.{JournalValue}
 use Rattle.ba_journal.specs.Loads.{IsOpenedAs, MayStandSince}
 use Rattle.ba_journal.specs.Readings.{ReadsAs}
 use Rattle.ba_journal.proofs.Turns.{joined, widened}
 use Rattle.ba_journal.specs.declared.readings.Reading.{Reading}
-use Rattle.ba_ports.specs.Disk.{LeavesOnly, InTurn}
-use Rattle.ba_ports.specs.declared.requests.Call.{Call}
+use Rattle.ba_ports.specs.Disk.{LeavesOnly}
 use Rattle.ba_record.specs.declared.records.Record.{Record}
 use Rattle.ba_node.specs.Nodes.{NodeOnJournal}
 use Rattle.ba_node.specs.declared.faults.LoadFault.{LoadFault}
-use Rattle.ba_node.specs.Loading.{MayBeginSince, Opened, RefusesFile, RefusesLoad, beginning, begun}
+use Rattle.ba_node.specs.Loading.{MayBeginSince, Opened, RefusesFile, begun}
 use Rattle.ba_node.proofs.Beginnings.{begun_in_range}
 use Rattle.ba_steps.specs.Lawful.{Replays}
 use Rattle.ba_steps.specs.Node.{NodeState}

@@ -1,8 +1,7 @@
-use Rattle.std.proofs.Common.{◌≡◌, List, IfOk, IfSome, IsTrue, sym, ap, subst}
+use Rattle.std.proofs.Common.{List, IfOk, IfSome, IsTrue, sym, ap, subst}
 use Rattle.ba_journal.specs.Journals.{IsSettled}
 use Rattle.ba_message.specs.Letters.{IsPostable}
 use Rattle.ba_node.specs.Keeping.{StandsWith}
-use Rattle.ba_node.specs.Nodes.{NodeOnJournal}
 use Rattle.ba_node.specs.Posting.{LeavesRoom}
 use Rattle.ba_plans.specs.Plans.{planned_tick}
 use Rattle.ba_node.specs.inside.Commits.{due_by_tick}

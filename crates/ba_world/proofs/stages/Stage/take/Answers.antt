@@ -1,4 +1,4 @@
-use Rattle.std.proofs.Common.{ℕ, ◌≤◌, ◌∙◌, length, arith}
+use Rattle.std.proofs.Common.{◌≤◌, ◌∙◌, length, arith}
 use Rattle.ba_world.proofs.PlaceLemmas.{taken_there}
 use Rattle.ba_world.specs.contracts.stages.Stage.{the_view}
 use Rattle.ba_world.proofs.stages.Stage.take.Goals as goal

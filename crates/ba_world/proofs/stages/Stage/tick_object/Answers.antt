@@ -1,4 +1,4 @@
-use Rattle.std.proofs.Common.{◌≡◌, ap, rules}
+use Rattle.std.proofs.Common.{ap}
 use Rattle.ba_world.proofs.EventLemmas.{tick_called}
 use Rattle.ba_world.proofs.PlaceLemmas.{can_be_put}
 use Rattle.ba_world.specs.Worlds.{StageValue}
