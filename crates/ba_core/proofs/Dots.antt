@@ -1,5 +1,6 @@
 -- What stands before the first dot of an object's identifier, and after it: for the reader of identifiers.
-use Rattle.std.proofs.Common.{◌≡◌, ◌≢◌, ℕ, ◌+◌, ◌<◌, ◌^◌, List, [], ◌∷◌, ◌++◌, length, take, drop, slice_index, get_or, sym, ap, ◌∙◌, refl, arith, Option, None, Some, IfNone}
+use Rattle.std.proofs.Common.{◌≡◌, ◌≢◌, ℕ, ◌+◌, ◌<◌, ◌^◌, List, [], ◌∷◌, ◌++◌, length, take, drop, slice_index, get_or, sym, ap, ◌∙◌, refl}
+use Rattle.std.proofs.Common.{arith, Option, None, Some, IfNone}
 use Rattle.std.specs.Fmt.{decimal}
 use Rattle.std.specs.List.{AllByRecursion}
 use Rattle.std.specs.Str.Parse.{AllDigits}
@@ -37,7 +38,8 @@ round_dot text n within dot =
     sym (take-append-drop n text) ∙ ap (λ xs. take n text ++ xs) rest
 
 -- the parts of an identifier round its first dot are its two numbers
-pub numbers_round : (text : List ℕ) (n node counter : ℕ) → n < length text → slice_index text n ≡ 46 → HasNoDot (take n text) → node < 2 ^ 64
+pub numbers_round : (text : List ℕ) (n node counter : ℕ) → n < length text → slice_index text n ≡ 46 → HasNoDot (take n text)
+    → node < 2 ^ 64
     → text ≡ decimal node ++ (46 ∷ decimal counter) → (take n text ≡ decimal node) × (drop (n + 1) text ≡ decimal counter)
 numbers_round text n node counter within dot first small same =
     same_parts (take n text) (drop (n + 1) text) (decimal node) (decimal counter)
@@ -45,7 +47,8 @@ numbers_round text n node counter within dot first small same =
     (sym (round_dot text n within dot) ∙ same)
 
 -- where no two numbers stand round the first dot, the text is no identifier
-pub no_numbers_round : {X : Type 0} (text after : List ℕ) (n : ℕ) → n < length text → slice_index text n ≡ 46 → HasNoDot (take n text) → after ≡ drop (n + 1) text
+pub no_numbers_round : {X : Type 0} (text after : List ℕ) (n : ℕ) → n < length text → slice_index text n ≡ 46 → HasNoDot (take n text)
+    → after ≡ drop (n + 1) text
     → (result : Option X)
     → IfNone result ((m c : ℕ) → m < 2 ^ 32 → c < 2 ^ 64 → take n text ≡ decimal m → after ≢ decimal c)
     → IfNone result ((node counter : ℕ) → node < 2 ^ 32 → counter < 2 ^ 64 → text ≢ decimal node ++ (46 ∷ decimal counter))

@@ -12,7 +12,9 @@ use Rattle.ba_core.specs.declared.rows.CRow.{CRow}
 use Rattle.ba_core.specs.declared.rows.CRow.TheVariants.{Invalid, Row}
 use Rattle.ba_core.specs.declared.states.How.TheVariants.{Canceled, Closed, Compensated, Failed, Exited, NotCompleted, Refused}
 use Rattle.ba_core.specs.declared.states.CState.{CState}
-use Rattle.ba_core.specs.declared.states.CState.TheVariants.{Active, Completing, Canceling, CancelingActive, CancelingCompleting, Completed, Closing, Compensating, FailingActive, FailingCompleting, FailingCanceling, FailingCompensating, NotCompleting, Exiting, Ended}
+use Rattle.ba_core.specs.declared.states.CState.TheVariants.{Active, Completing, Canceling, CancelingActive, CancelingCompleting, Completed}
+use Rattle.ba_core.specs.declared.states.CState.TheVariants.{Closing, Compensating, FailingActive, FailingCompleting, FailingCanceling}
+use Rattle.ba_core.specs.declared.states.CState.TheVariants.{FailingCompensating, NotCompleting, Exiting, Ended}
 
 -- a row of the table: its mark, and a cell for each notice that a participant alone sends
 pub record EndCells : Type 0 where

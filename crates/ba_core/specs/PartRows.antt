@@ -12,7 +12,9 @@ use Rattle.ba_core.specs.declared.rows.PRow.{PRow}
 use Rattle.ba_core.specs.declared.rows.PRow.TheVariants.{Invalid, Row}
 use Rattle.ba_core.specs.declared.states.How.TheVariants.{Canceled, Closed, Compensated, Failed, Exited, NotCompleted, Refused}
 use Rattle.ba_core.specs.declared.states.PState.{PState}
-use Rattle.ba_core.specs.declared.states.PState.TheVariants.{Registering, Active, Completing, Canceling, Completed, Closing, Compensating, FailingActive, FailingCompleting, FailingCanceling, FailingCompensating, NotCompleting, Exiting, Ended}
+use Rattle.ba_core.specs.declared.states.PState.TheVariants.{Registering, Active, Completing, Canceling, Completed, Closing, Compensating}
+use Rattle.ba_core.specs.declared.states.PState.TheVariants.{FailingActive, FailingCompleting, FailingCanceling, FailingCompensating}
+use Rattle.ba_core.specs.declared.states.PState.TheVariants.{NotCompleting, Exiting, Ended}
 
 -- a row of the table: its mark, and a cell for each notice that a coordinator alone sends
 pub record PartCells : Type 0 where

@@ -1,5 +1,6 @@
 -- Words of which none is bad fit a form, one by one.
-use Rattle.std.proofs.Common.{◌≡◌, ℕ, ◌+◌, ◌-◌, ◌⊎◌, inl, inr, Bool, true, false, true≢false, if◌then◌else◌, Option, None, Some, List, [], ◌∷◌, ◌++◌, length, refl, sym, ap, ◌∙◌}
+use Rattle.std.proofs.Common.{◌≡◌, ℕ, ◌+◌, ◌-◌, ◌⊎◌, inl, inr, Bool, true, false, true≢false, if◌then◌else◌, Option, None, Some, List, []}
+use Rattle.std.proofs.Common.{◌∷◌, ◌++◌, length, refl, sym, ap, ◌∙◌}
 use Rattle.ba_forms.specs.Grammar.{Slot, fits, left_after, some_ends, bad_or, bad_word}
 
 -- the words fit these slots, one by one

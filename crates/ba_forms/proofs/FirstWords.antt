@@ -1,8 +1,10 @@
 -- What may come after a line's first word.
-use Rattle.std.proofs.Common.{◌≡◌, ◌≢◌, ℕ, List, [], ◌∷◌, ◌++◌, Option, None, Some, IfSome, IfNone, true, false, refl, sym, ap, ◌∙◌, codes, if◌then◌else◌}
+use Rattle.std.proofs.Common.{◌≡◌, ◌≢◌, ℕ, List, [], ◌∷◌, ◌++◌, Option, None, Some, IfSome, IfNone, true, false, refl, sym, ap, ◌∙◌, codes}
+use Rattle.std.proofs.Common.{if◌then◌else◌}
 use Rattle.ba_forms.specs.Grammar.{fits, the, left_after, some_ends, Slot, opening_forms, pair_forms, world_forms}
 use Rattle.ba_forms.specs.Readings.{forms_at}
-use Rattle.ba_forms.specs.inside.LineWords.{BeginsOpening, BeginsPair, BeginsWorld, WorldFits, opening_left, opening_so_far, pair_left, pair_so_far, world_left, world_so_far}
+use Rattle.ba_forms.specs.inside.LineWords.{BeginsOpening, BeginsPair, BeginsWorld, WorldFits, opening_left, opening_so_far, pair_left}
+use Rattle.ba_forms.specs.inside.LineWords.{pair_so_far, world_left, world_so_far}
 use Rattle.ba_forms.specs.declared.readings.Form.{Form}
 use Rattle.ba_forms.specs.declared.readings.Form.TheVariants as form
 use Rattle.ba_forms.specs.declared.line_words.PairWords.{PairWords}

@@ -1,5 +1,6 @@
 -- What it is for a word to be the name of an object.
-use Rattle.std.proofs.Common.{◌≡◌, ◌≢◌, ℕ, ◌+◌, ◌<◌, ◌^◌, Bool, true, false, true≢false, nat_eq, ne_eqb, if◌then◌else◌, Option, None, Some, IfSome, IfNone, List, [], ◌∷◌, ◌++◌, codes, refl, sym, ap, ◌∙◌, arith}
+use Rattle.std.proofs.Common.{◌≡◌, ◌≢◌, ℕ, ◌+◌, ◌<◌, ◌^◌, Bool, true, false, true≢false, nat_eq, ne_eqb, if◌then◌else◌, Option, None, Some}
+use Rattle.std.proofs.Common.{IfSome, IfNone, List, [], ◌∷◌, ◌++◌, codes, refl, sym, ap, ◌∙◌, arith}
 use Rattle.std.specs.Fmt.{decimal}
 use Rattle.std.specs.List.{AllByRecursion}
 use Rattle.std.specs.Str.Parse.{AllDigits, digits_value}

@@ -10,7 +10,8 @@ use Rattle.ba_events.specs.declared.events.Event.{Event}
 use Rattle.ba_events.specs.declared.events.Event.TheVariants as world
 use Rattle.ba_pair.specs.declared.events.PairEvent.{PairEvent}
 use Rattle.ba_pair.specs.declared.events.PairEvent.TheVariants as pair
-use Rattle.ba_forms.specs.Grammar.{the, name, number, a_call, a_kind, a_leave, a_message, a_node, a_protocol, a_side, a_time, a_verdict, an_act, an_image, most_32, most_64, opening_forms, pair_forms, world_forms}
+use Rattle.ba_forms.specs.Grammar.{the, name, number, a_call, a_kind, a_leave, a_message, a_node, a_protocol, a_side, a_time, a_verdict}
+use Rattle.ba_forms.specs.Grammar.{an_act, an_image, most_32, most_64, opening_forms, pair_forms, world_forms}
 use Rattle.ba_forms.specs.Readings.{opening_words, IsPlayable, pair_words, IsPairWritten, side_word}
 use Rattle.ba_forms.specs.declared.readings.Form.{Form}
 use Rattle.ba_forms.specs.declared.readings.Form.TheVariants as form

@@ -1,5 +1,7 @@
 -- A line's words are looked at one after another: how far the looking came.
-use Rattle.std.proofs.Common.{◌≡◌, ◌≢◌, ℕ, ◌+◌, ◌-◌, ◌<◌, Option, None, Some, false, if◌then◌else◌, All, List, [], ◌∷◌, ◌++◌, length, take, drop, slice_index, refl, sym, ap, ◌∙◌, append_assoc, append-nil, take-append-drop, take_all, arith, length-take, length-drop}
+use Rattle.std.proofs.Common.{◌≡◌, ◌≢◌, ℕ, ◌+◌, ◌-◌, ◌<◌, Option, None, Some, false, if◌then◌else◌, All, List, [], ◌∷◌, ◌++◌, length, take}
+use Rattle.std.proofs.Common.{drop, slice_index, refl, sym, ap, ◌∙◌, append_assoc, append-nil, take-append-drop, take_all, arith}
+use Rattle.std.proofs.Common.{length-take, length-drop}
 use Rattle.std.proofs.lemmas.List.{drop_more}
 use Rattle.std.proofs.lemmas.List.Elements.{recursion_from_All}
 use Rattle.ba_forms.specs.Grammar.{words_of, left_after, bad_or, bad_word, some_ends, Slot, opening_forms, pair_forms, world_forms}

@@ -1,10 +1,12 @@
 -- A head, and then its body; for the clauses `request` and `reply`.
-use Rattle.std.proofs.Common.{◌≡◌, ℕ, ◌+◌, ◌≤◌, inl, inr, List, ◌++◌, length, take, drop, sym, ap, ◌∙◌, subst, arith, append-nil, append_assoc, length-append, take-append-drop, Option, None, Result, Ok, Err}
+use Rattle.std.proofs.Common.{◌≡◌, ℕ, ◌+◌, ◌≤◌, inl, inr, List, ◌++◌, length, take, drop, sym, ap, ◌∙◌, subst, arith, append-nil}
+use Rattle.std.proofs.Common.{append_assoc, length-append, take-append-drop, Option, None, Result, Ok, Err}
 use Rattle.std.proofs.Math.Seq.{take-append-add}
 use Rattle.std.specs.Io.KnownBytes.{Consumes}
 use Rattle.std.proofs.KnownBytes.{Consumes-trans}
 use Rattle.ba_http_head.specs.declared.faults.HttpFault.{HttpFault}
-use Rattle.ba_http_head.specs.declared.faults.HttpFault.TheVariants.{Memory, BadHead, Length as NoLength, TooLarge, BadChunk, Truncated, Read}
+use Rattle.ba_http_head.specs.declared.faults.HttpFault.TheVariants.{Memory, BadHead, Length as NoLength, TooLarge, BadChunk, Truncated}
+use Rattle.ba_http_head.specs.declared.faults.HttpFault.TheVariants.{Read}
 use Rattle.ba_http_head.specs.declared.headings.Heading.{Heading}
 use Rattle.ba_http_head.specs.declared.lengths.Length.{Length}
 use Rattle.ba_http_head.specs.Heads.{StartLine, IsHead, Opening, OpeningSo, Opens}
@@ -85,7 +87,8 @@ after_head heading old mid new opening result opens reads =
     let head = opens.5 in
     let taken = reads.0 in
     let consumed = Consumes-trans old mid new (opens.0 ++ opens.1) reads.0 opens.2 reads.1 in
-    let told = so heading (opens.0 ++ opens.1) opening.rest reads.0 head.0 opening.start opening.length head.1 head.2 head.3 new result reads.3 in
+    let told = so heading (opens.0 ++ opens.1) opening.rest reads.0 head.0 opening.start opening.length head.1 head.2 head.3 new
+    result reads.3 in
     elim reads.2 [
       | inl none ↦
           let same : (opens.0 ++ opens.1) ++ reads.0 ≡ opens.0 ++ opens.1 =

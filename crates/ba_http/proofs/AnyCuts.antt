@@ -1,9 +1,11 @@
 -- What is read of the same bytes is the same, whatever the cuts; for the law.
-use Rattle.std.proofs.Common.{◌≡◌, ℕ, ◌≤◌, inl, inr, List, [], ◌++◌, length, take, refl, sym, ap, ◌∙◌, subst, arith, append-nil, length-append, Option, None, Some, Result, Ok, Err}
+use Rattle.std.proofs.Common.{◌≡◌, ℕ, ◌≤◌, inl, inr, List, [], ◌++◌, length, take, refl, sym, ap, ◌∙◌, subst, arith, append-nil}
+use Rattle.std.proofs.Common.{length-append, Option, None, Some, Result, Ok, Err}
 use Rattle.std.specs.Prelude.{◌≢◌}
 use Rattle.std.proofs.lemmas.List.{take-append-le}
 use Rattle.ba_http_head.specs.declared.faults.HttpFault.{HttpFault}
-use Rattle.ba_http_head.specs.declared.faults.HttpFault.TheVariants.{Memory, BadHead, Length as NoLength, TooLarge, BadChunk, Truncated, Read}
+use Rattle.ba_http_head.specs.declared.faults.HttpFault.TheVariants.{Memory, BadHead, Length as NoLength, TooLarge, BadChunk, Truncated}
+use Rattle.ba_http_head.specs.declared.faults.HttpFault.TheVariants.{Read}
 use Rattle.ba_http_head.specs.declared.headings.Heading.{Heading}
 use Rattle.ba_http.specs.Messages.{Message, Decides, IsCutShort, EndsAtInput, MessageSo, Reads}
 use Rattle.ba_http.proofs.OneMessage.{decides_once, decision_settles}

@@ -1,5 +1,6 @@
 -- Of any bytes something shows itself as a body in chunks, or they are one that isn't ended; for the law.
-use Rattle.std.proofs.Common.{◌≡◌, ℕ, ◌+◌, ◌<◌, ◌≤◌, ◌⊎◌, inl, inr, Bool, true, false, nat_eq, List, [], ◌∷◌, ◌++◌, length, take, refl, sym, ap, ◌∙◌, subst, arith, append-nil, append_assoc, length-append, take_all}
+use Rattle.std.proofs.Common.{◌≡◌, ℕ, ◌+◌, ◌<◌, ◌≤◌, ◌⊎◌, inl, inr, Bool, true, false, nat_eq, List, [], ◌∷◌, ◌++◌, length, take, refl, sym}
+use Rattle.std.proofs.Common.{ap, ◌∙◌, subst, arith, append-nil, append_assoc, length-append, take_all}
 use Rattle.std.proofs.lemmas.Bool.{cases_lt, eqb-true, eq-eqb}
 use Rattle.std.proofs.lemmas.List.{take-append-le}
 use Rattle.std.proofs.lemmas.List.Elements.{All-push, All-nil}
@@ -13,7 +14,9 @@ use Rattle.ba_http_head.proofs.LookLemmas.{begun}
 use Rattle.ba_http_body.specs.declared.size_lines.Place.TheVariants.{First}
 use Rattle.ba_http_body.specs.SizeLines.{SizeLine, IsSizeLine, print_size_line, MayBecomeSizeLine}
 use Rattle.ba_http_chunks.specs.declared.chunks.TheConstants.{MOST_SIZE_LINE}
-use Rattle.ba_http_chunks.specs.Transfers.{size_of, IsShortLine, Chunk, IsChunk, print_chunk, print_chunks, bytes_of, AreChunks, IsLastLine, Position, in_line, in_bytes, in_end, in_trailer, bytes_at, GoesOn, IsUnended, Sight, whole, broken, large, ShowsBody}
+use Rattle.ba_http_chunks.specs.Transfers.{size_of, IsShortLine, Chunk, IsChunk, print_chunk, print_chunks, bytes_of, AreChunks, IsLastLine}
+use Rattle.ba_http_chunks.specs.Transfers.{Position, in_line, in_bytes, in_end, in_trailer, bytes_at, GoesOn, IsUnended, Sight, whole}
+use Rattle.ba_http_chunks.specs.Transfers.{broken, large, ShowsBody}
 use Rattle.ba_http_chunks.proofs.LinesGoOn.{begins}
 use Rattle.ba_http.proofs.NotNever.{NotNever, sure, follow, holds_or}
 use Rattle.ba_http.proofs.HeadsShow.{head_step}

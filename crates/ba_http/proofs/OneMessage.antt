@@ -1,9 +1,11 @@
 -- The message of given bytes is one, and so is its refusal; for the laws.
-use Rattle.std.proofs.Common.{◌≡◌, ℕ, ◌+◌, ◌≤◌, inl, inr, List, [], ◌∷◌, ◌++◌, length, take, drop, refl, sym, ap, ◌∙◌, subst, arith, append-nil, append_assoc, length-append, take-append-drop, take_all, Option, None, Some, Result, Ok, Err}
+use Rattle.std.proofs.Common.{◌≡◌, ℕ, ◌+◌, ◌≤◌, inl, inr, List, [], ◌∷◌, ◌++◌, length, take, drop, refl, sym, ap, ◌∙◌, subst, arith}
+use Rattle.std.proofs.Common.{append-nil, append_assoc, length-append, take-append-drop, take_all, Option, None, Some, Result, Ok, Err}
 use Rattle.std.proofs.lemmas.List.{length-take-le, take-take}
 use Rattle.std.proofs.Math.Seq.{take-append_seam}
 use Rattle.ba_http_head.specs.declared.faults.HttpFault.{HttpFault}
-use Rattle.ba_http_head.specs.declared.faults.HttpFault.TheVariants.{Memory, BadHead, Length as NoLength, TooLarge, BadChunk, Truncated, Read}
+use Rattle.ba_http_head.specs.declared.faults.HttpFault.TheVariants.{Memory, BadHead, Length as NoLength, TooLarge, BadChunk, Truncated}
+use Rattle.ba_http_head.specs.declared.faults.HttpFault.TheVariants.{Read}
 use Rattle.ba_http_head.specs.declared.headings.Heading.{Heading}
 use Rattle.ba_http_head.specs.declared.lengths.Length.{Length}
 use Rattle.ba_http_head.specs.declared.lengths.Length.TheVariants.{Counted, Chunked}
@@ -37,13 +39,15 @@ says_fault fault = Err fault
 
 -- how an answer comes
 data Ruling (heading : Heading) (bytes : List ℕ) (result : Result Message HttpFault) : Type 0 where
-  at_head : (shown : Shown) → Shows heading bytes shown → (shown ≡ Whole → ⊥) → result ≡ Err (refusal_of shown) → Ruling heading bytes result
+  at_head : (shown : Shown) → Shows heading bytes shown → (shown ≡ Whole → ⊥) → result ≡ Err (refusal_of shown)
+      → Ruling heading bytes result
   by_fields : (start : StartLine) → (fault : HttpFault) → IsHead heading bytes start (Err fault) → result ≡ Err fault
       → Ruling heading bytes result
   by_body : (prefix transfer : List ℕ) → (start : StartLine) → (said : Option Length) → (sight : Sight) → bytes ≡ prefix ++ transfer
       → IsHead heading prefix start (Ok said) → EndsBody said transfer sight → result ≡ answer_of start sight → Ruling heading bytes result
 
-ruled : (heading : Heading) (bytes : List ℕ) (result : Result Message HttpFault) → Decides heading bytes result → Ruling heading bytes result
+ruled : (heading : Heading) (bytes : List ℕ) (result : Result Message HttpFault) → Decides heading bytes result
+    → Ruling heading bytes result
 ruled heading bytes (Ok message) d = by_body d.0 d.1 message.start d.2 (whole message.body) d.3 d.4 d.5 refl
 ruled heading bytes (Err Memory) d = absurd d
 ruled heading bytes (Err (BadHead place)) d = at_head (Bad place) d (λ same. cc) refl
@@ -139,17 +143,20 @@ module _ (heading : Heading) (bytes : List ℕ) (m n : ℕ) (first : m ≤ lengt
   once a b (by_fields start fault x p) (by_body prefix transfer begin said sight cut y e q) =
       let at = prefix_is bytes n second prefix transfer cut in
       let whole_shows = subst (λ v. Shows heading v Whole) (sym at) y.shows in
-      let same = (shows_once heading bytes m (length prefix) Whole Whole first (inner bytes n second prefix transfer cut) x.shows whole_shows).0 in
+      let same = (shows_once heading bytes m (length prefix) Whole Whole first (inner bytes n second prefix transfer cut) x.shows
+      whole_shows).0 in
       let here = subst (λ v. SaysHead heading v start (Err fault)) (ap (λ k. take k bytes) same ∙ at) x.says in
       let says = (says_one heading prefix start begin (Err fault) (Ok said) here y.says).1 in
       absurd (cc)
   once a b (by_body prefix transfer start said sight cut x e p) (at_head t y never q) =
       let whole_shows = subst (λ v. Shows heading v Whole) (sym (prefix_is bytes m first prefix transfer cut)) x.shows in
-      absurd (never (sym (shows_once heading bytes (length prefix) n Whole t (inner bytes m first prefix transfer cut) second whole_shows y).1))
+      absurd (never (sym (shows_once heading bytes (length prefix) n Whole t (inner bytes m first prefix transfer cut) second
+      whole_shows y).1))
   once a b (by_body prefix transfer start said sight cut x e p) (by_fields begin fault y q) =
       let at = prefix_is bytes m first prefix transfer cut in
       let whole_shows = subst (λ v. Shows heading v Whole) (sym at) x.shows in
-      let same = (shows_once heading bytes (length prefix) n Whole Whole (inner bytes m first prefix transfer cut) second whole_shows y.shows).0 in
+      let same = (shows_once heading bytes (length prefix) n Whole Whole (inner bytes m first prefix transfer cut) second
+      whole_shows y.shows).0 in
       let here = subst (λ v. SaysHead heading v start (Ok said)) (sym at ∙ ap (λ k. take k bytes) same) x.says in
       let says = (says_one heading (take n bytes) start begin (Ok said) (Err fault) here y.says).1 in
       absurd (cc)
@@ -198,8 +205,10 @@ module _ (heading : Heading) (bytes : List ℕ) (n : ℕ) (within : n ≤ length
         | inr after ↦
             let h = after.1 in
             let all : take (length bytes) bytes ≡ h.0 ++ h.1 = take_all (length bytes) bytes (omega arith) ∙ h.3 in
-            let whole_shows = subst (λ v. Shows heading v Whole) (sym (prefix_is bytes (length bytes) (omega arith) h.0 h.1 all)) h.4.shows in
-            never (shows_once heading bytes n (length h.0) s Whole within (inner bytes (length bytes) (omega arith) h.0 h.1 all) x whole_shows).1
+            let whole_shows = subst (λ v. Shows heading v Whole)
+            (sym (prefix_is bytes (length bytes) (omega arith) h.0 h.1 all)) h.4.shows in
+            never (shows_once heading bytes n (length h.0) s Whole within (inner bytes (length bytes) (omega arith) h.0 h.1 all)
+            x whole_shows).1
       ]
   settled a (by_fields start fault x p) yet =
       elim yet [

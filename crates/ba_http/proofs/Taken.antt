@@ -2,7 +2,8 @@
 use Rattle.std.proofs.Common.{◌≡◌, ℕ, ◌+◌, inl, inr, List, [], ◌++◌, take, refl, sym, subst, arith, Option, None, Some, Result, Ok, Err}
 use Rattle.std.proofs.lemmas.List.{length-take-le}
 use Rattle.ba_http_head.specs.declared.faults.HttpFault.{HttpFault}
-use Rattle.ba_http_head.specs.declared.faults.HttpFault.TheVariants.{Memory, BadHead, Length as NoLength, TooLarge, BadChunk, Truncated, Read}
+use Rattle.ba_http_head.specs.declared.faults.HttpFault.TheVariants.{Memory, BadHead, Length as NoLength, TooLarge, BadChunk, Truncated}
+use Rattle.ba_http_head.specs.declared.faults.HttpFault.TheVariants.{Read}
 use Rattle.ba_http_head.specs.declared.lengths.Length.{Length}
 use Rattle.ba_http_head.specs.declared.lengths.Length.TheVariants.{Counted, Chunked}
 use Rattle.ba_http_head.specs.declared.lengths.TheConstants.{MOST_BODY}

@@ -3,7 +3,8 @@ use Rattle.std.specs.Prelude.{◌≡◌, ℕ, ◌+◌, ◌<◌, ◌≤◌, ◌�
 use Rattle.std.specs.Io.KnownBytes.{Consumes, IsAtEnd}
 use Rattle.ba_http_head.specs.declared.blocks.TheConstants.{BLOCK}
 use Rattle.ba_http_head.specs.declared.faults.HttpFault.{HttpFault}
-use Rattle.ba_http_head.specs.declared.faults.HttpFault.TheVariants.{Memory, BadHead, Length as NoLength, TooLarge, BadChunk, Truncated, Read}
+use Rattle.ba_http_head.specs.declared.faults.HttpFault.TheVariants.{Memory, BadHead, Length as NoLength, TooLarge, BadChunk, Truncated}
+use Rattle.ba_http_head.specs.declared.faults.HttpFault.TheVariants.{Read}
 use Rattle.ba_http_head.specs.declared.headings.Heading.{Heading}
 use Rattle.ba_http_head.specs.declared.lengths.Length.{Length}
 use Rattle.ba_http_head.specs.declared.lengths.Length.TheVariants.{Counted, Chunked}

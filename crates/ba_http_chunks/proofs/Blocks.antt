@@ -1,5 +1,6 @@
 -- A body in chunks, block by block; for the clauses `body` of chunks_by and read_chunked.
-use Rattle.std.proofs.Common.{◌≡◌, ℕ, ◌+◌, ◌-◌, ◌^◌, ◌<◌, ◌≤◌, List, [], ◌++◌, length, take, drop, refl, sym, ap, ◌∙◌, subst, inl, inr, arith, append-nil, append_assoc, length-append, take-append-drop, Option, None, Some, Result, Ok, Err}
+use Rattle.std.proofs.Common.{◌≡◌, ℕ, ◌+◌, ◌-◌, ◌^◌, ◌<◌, ◌≤◌, List, [], ◌++◌, length, take, drop, refl, sym, ap, ◌∙◌, subst, inl, inr}
+use Rattle.std.proofs.Common.{arith, append-nil, append_assoc, length-append, take-append-drop, Option, None, Some, Result, Ok, Err}
 use Rattle.std.proofs.lemmas.List.{drop-take, length-take}
 use Rattle.std.specs.Io.KnownBytes.{Consumes, IsAtEnd, Keeps}
 use Rattle.std.proofs.KnownBytes.{Consumes-nil, Consumes-trans}
@@ -20,7 +21,8 @@ given_from : (so new : List ℕ → Type 0) (body more : List ℕ) → Gives so 
 given_from so new body more gives given stands = subst new (append_assoc given body more) (gives (given ++ body) stands)
 
 -- the last chunk's line ended in a piece
-pub piece_ended : (so mid new : List ℕ → Type 0) (c next : Chunks) (fed body more piece rest : List ℕ) (at : ℕ) (left_old left_new : Option (List ℕ))
+pub piece_ended : (so mid new : List ℕ → Type 0) (c next : Chunks) (fed body more piece rest : List ℕ) (at : ℕ)
+    (left_old left_new : Option (List ℕ))
     (result : Result (Unit {0}) HttpFault) → Stands c fed (body ++ more) → Gives so mid more → Feeds mid new c next piece (Ok (Some at))
     → rest ≡ drop at piece → ReadsTrailer rest next.count left_old left_new result
     → Unchunks (λ given. so (given ++ body)) new (fed ++ piece) left_old left_new result
@@ -122,7 +124,8 @@ falls before after fed piece is next small some = omega (arith, is, next, small,
 
 -- what follows from a weaker start of the taker
 given_before : (so mid new : List ℕ → Type 0) (hand : List ℕ) (left_old left_new : Option (List ℕ)) (result : Result (Unit {0}) HttpFault)
-    → ((given : List ℕ) → so given → mid given) → Unchunks mid new hand left_old left_new result → Unchunks so new hand left_old left_new result
+    → ((given : List ℕ) → so given → mid given) → Unchunks mid new hand left_old left_new result
+    → Unchunks so new hand left_old left_new result
 given_before so mid new hand left_old left_new result before u = (u.0, u.1, u.2, told result u.3)
   where
     told : (r : Result (Unit {0}) HttpFault) → ChunkedSo mid new (hand ++ u.0) left_new r → ChunkedSo so new (hand ++ u.0) left_new r

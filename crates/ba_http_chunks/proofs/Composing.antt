@@ -1,5 +1,6 @@
 -- A body in chunks, piece by piece, and then its trailer; for the clauses `body`.
-use Rattle.std.proofs.Common.{◌≡◌, ℕ, ◌+◌, ◌^◌, ◌≤◌, inl, inr, List, [], ◌++◌, length, take, refl, sym, ap, ◌∙◌, subst, arith, append-nil, append_assoc, length-append, Option, Result, Ok, Err}
+use Rattle.std.proofs.Common.{◌≡◌, ℕ, ◌+◌, ◌^◌, ◌≤◌, inl, inr, List, [], ◌++◌, length, take, refl, sym, ap, ◌∙◌, subst, arith, append-nil}
+use Rattle.std.proofs.Common.{append_assoc, length-append, Option, Result, Ok, Err}
 use Rattle.std.proofs.Math.Seq.{take-append-add}
 use Rattle.std.specs.Io.KnownBytes.{Consumes, IsAtEnd}
 use Rattle.std.proofs.KnownBytes.{Consumes-trans, Consumes-nil}
@@ -31,7 +32,8 @@ pub gives_none : (old : List ℕ → Type 0) → Gives old old []
 gives_none old given stands = subst old (sym (append-nil given)) stands
 
 -- the last chunk's line has come, and then the trailer is read
-module _ (old new : List ℕ → Type 0) (count : ℕ) (fed body rest : List ℕ) (is : IsBeforeTrailer count fed body) (few : length fed ≤ 2 ^ 33) where
+module _ (old new : List ℕ → Type 0) (count : ℕ) (fed body rest : List ℕ) (is : IsBeforeTrailer count fed body)
+    (few : length fed ≤ 2 ^ 33) where
   in_it : (trailer : List ℕ) → IsOpen Trailer trailer → IsUnended (fed ++ trailer)
   in_it trailer yet = (
     is.chunks,
@@ -58,7 +60,8 @@ module _ (old new : List ℕ → Type 0) (count : ℕ) (fed body rest : List ℕ
             )
       ]
 
-  so : (bytes : List ℕ) (left : Option (List ℕ)) (result : Result (Unit {0}) HttpFault) → Gives old new body → TrailerSo bytes count left result
+  so : (bytes : List ℕ) (left : Option (List ℕ)) (result : Result (Unit {0}) HttpFault) → Gives old new body
+      → TrailerSo bytes count left result
       → ChunkedSo old new (fed ++ bytes) left result
   so bytes left (Ok done) gives t = (
     length fed + t.0,

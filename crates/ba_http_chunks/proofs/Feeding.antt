@@ -1,5 +1,6 @@
 -- A piece of a transfer, turn by turn; for the clauses of turn and feed.
-use Rattle.std.proofs.Common.{◌≡◌, ℕ, ◌+◌, ◌-◌, ◌^◌, ◌<◌, ◌≤◌, min, get_or, List, [], ◌∷◌, ◌++◌, length, take, drop, refl, sym, ap, ◌∙◌, subst, arith, append-nil, append_assoc, length-drop, take-add, take_all, None, Some, Result, Ok, Err}
+use Rattle.std.proofs.Common.{◌≡◌, ℕ, ◌+◌, ◌-◌, ◌^◌, ◌<◌, ◌≤◌, min, get_or, List, [], ◌∷◌, ◌++◌, length, take, drop, refl, sym, ap, ◌∙◌}
+use Rattle.std.proofs.Common.{subst, arith, append-nil, append_assoc, length-drop, take-add, take_all, None, Some, Result, Ok, Err}
 use Rattle.std.proofs.lemmas.List.{length-take-le}
 use Rattle.ba_http_head.specs.declared.faults.HttpFault.{HttpFault}
 use Rattle.ba_http_head.specs.declared.faults.HttpFault.TheVariants.{Memory, BadHead, Length, TooLarge, BadChunk, Truncated, Read}
@@ -63,7 +64,8 @@ module _ (old mid new : List ℕ → Type 0) (from c : Chunks) (piece : List ℕ
           f.0 ++ [],
           subst (λ v. IsBeforeTrailer v (fed ++ take (at + 1) piece) (body ++ (f.0 ++ []))) (sym is)
               (subst (λ v. IsBeforeTrailer count v (body ++ (f.0 ++ []))) (joined 1 fed)
-              (subst (IsBeforeTrailer count ((fed ++ take at piece) ++ take 1 (drop at piece))) (ap (λ v. body ++ v) (sym (append-nil f.0))) t)),
+              (subst (IsBeforeTrailer count ((fed ++ take at piece) ++ take 1 (drop at piece)))
+              (ap (λ v. body ++ v) (sym (append-nil f.0))) t)),
           gives_on old mid new f.0 [] f.2 turns.1,
         ),
   )

@@ -1,5 +1,6 @@
 -- The digits at the beginning of a size line, and the number that they write; for the clauses of size_after and take_of_line.
-use Rattle.std.proofs.Common.{◌≡◌, ℕ, ◌+◌, ◌-◌, ◌*◌, ◌^◌, ◌<◌, min, Bool, true, false, if◌then◌else◌, List, [], ◌∷◌, ◌++◌, length, refl, sym, ap, ◌∙◌, subst, arith, append-nil, append_assoc, Option, None, Some}
+use Rattle.std.proofs.Common.{◌≡◌, ℕ, ◌+◌, ◌-◌, ◌*◌, ◌^◌, ◌<◌, min, Bool, true, false, if◌then◌else◌, List, [], ◌∷◌, ◌++◌, length, refl}
+use Rattle.std.proofs.Common.{sym, ap, ◌∙◌, subst, arith, append-nil, append_assoc, Option, None, Some}
 use Rattle.std.specs.Char.{is_ascii_hexdigit, digit_value}
 use Rattle.std.specs.Str.Parse.{digits_value}
 use Rattle.std.proofs.lemmas.Int.Digits.{digits_value_push}
@@ -98,7 +99,8 @@ digit_more line b size all says = other (is_ascii_hexdigit b) refl
         grown (digits_value 16 line) size (digit_value b) (with_digit size b) before value
         ∙ ap (λ v. min v (2 ^ 64 - 1)) (sym (digits_value_push 16 line b)) ∙ ap (λ v. min (digits_value 16 v) (2 ^ 64 - 1)) (sym digits)
     other false is =
-        subst (SaysSoFar (line ++ b ∷ [])) (sym (ap (λ t. if t then min (min (size * 16) (2 ^ 64 - 1) + digit_value b) (2 ^ 64 - 1) else size) is))
+        subst (SaysSoFar (line ++ b ∷ [])) (sym (ap
+        (λ t. if t then min (min (size * 16) (2 ^ 64 - 1) + digit_value b) (2 ^ 64 - 1) else size) is))
         (kept line b size (same_digits line b is) says)
 
 -- the digits of a whole line
@@ -111,8 +113,10 @@ digits_are l is =
 pub says_size : (l : SizeLine) (size : ℕ) → IsSizeLine l → SaysSoFar (print_size_line l) size → size ≡ min (size_of l) (2 ^ 64 - 1)
 says_size l size is says = says ∙ ap (λ v. min (digits_value 16 v) (2 ^ 64 - 1)) (digits_are l is)
 
-pub first_digit_says : (line : List ℕ) (b size : ℕ) → HasRead First line → SaysSoFar line size → SaysSoFar (line ++ b ∷ []) (with_digit size b)
-first_digit_says line b size none says = digit_more line b size (subst (AllPass is_ascii_hexdigit) (sym none) (All-nil (λ v. is_ascii_hexdigit v ≡ true))) says
+pub first_digit_says : (line : List ℕ) (b size : ℕ) → HasRead First line → SaysSoFar line size
+    → SaysSoFar (line ++ b ∷ []) (with_digit size b)
+first_digit_says line b size none says = digit_more line b size
+    (subst (AllPass is_ascii_hexdigit) (sym none) (All-nil (λ v. is_ascii_hexdigit v ≡ true))) says
 
 -- what the parser's digit makes of a number
 pub digit_is : (size b d more r : ℕ) → is_ascii_hexdigit b ≡ true → d ≡ digit_value b → more ≡ min (size * 16) (2 ^ 64 - 1)

@@ -1,5 +1,6 @@
 -- Where the bytes of a transfer lead, up to its trailer; for the laws.
-use Rattle.std.proofs.Common.{◌≡◌, ℕ, zero, suc, ◌+◌, ◌<◌, ◌≤◌, true, false, cond, nat_eq, nat_lt, nat_le, List, [], ◌∷◌, ◌++◌, length, refl, sym, ap, ◌∙◌, subst, arith, append-nil, append_assoc, length-append, All}
+use Rattle.std.proofs.Common.{◌≡◌, ℕ, zero, suc, ◌+◌, ◌<◌, ◌≤◌, true, false, cond, nat_eq, nat_lt, nat_le, List, [], ◌∷◌, ◌++◌, length}
+use Rattle.std.proofs.Common.{refl, sym, ap, ◌∙◌, subst, arith, append-nil, append_assoc, length-append, All}
 use Rattle.std.specs.Str.Parse.{digits_value}
 use Rattle.std.proofs.lemmas.Bool.{lt-leb, le-leb, lt-ltb, le-ltb, ne_eqb}
 use Rattle.std.proofs.lemmas.List.Elements.{All-head, All-tail}
@@ -56,7 +57,8 @@ sized_pass body size bs =
 -- one byte of a size line that isn't too long
 one_byte : (body : List ℕ) (p : Place) (seen : List ℕ) (b : ℕ) (bs : List ℕ) (s : Step) → length seen < MOST_SIZE_LINE → place_step p b ≡ s
     → pass body (in_size p seen) (b ∷ bs)
-    ≡ by_step s (λ q. pass body (in_size q (seen ++ b ∷ [])) bs) (sized_pass body (digits_value 16 (leading_digits (seen ++ b ∷ []))) bs) (to_wrong bs)
+    ≡ by_step s (λ q. pass body (in_size q (seen ++ b ∷ [])) bs)
+    (sized_pass body (digits_value 16 (leading_digits (seen ++ b ∷ []))) bs) (to_wrong bs)
 unfolding pass
 one_byte body p seen b bs s short is =
     ap (λ t. cond t (to_limit bs)
@@ -124,8 +126,10 @@ pub line_passed : (body : List ℕ) (l : SizeLine) (rest : List ℕ) → IsShort
     → pass body (in_size First []) (print_size_line l ++ rest) ≡ sized_pass body (size_of l) rest
 line_passed body l rest is =
     let print : print_size_line l ≡ unended_line l ++ 10 ∷ [] = sym (append-nil (print_size_line l)) ∙ line_split l [] in
-    let size : length (unended_line l) < MOST_SIZE_LINE = omega (arith, is.short, ap length print, length-append (unended_line l) (10 ∷ [])) in
-    let run = run_line body First [] (unended_line l) 10 [] (10 ∷ rest) refl (ap (walk First) (sym print) ∙ walks l is.line) (omega (arith, size)) in
+    let size : length (unended_line l) < MOST_SIZE_LINE =
+    omega (arith, is.short, ap length print, length-append (unended_line l) (10 ∷ [])) in
+    let run = run_line body First [] (unended_line l) 10 [] (10 ∷ rest) refl (ap (walk First) (sym print) ∙ walks l is.line)
+    (omega (arith, size)) in
     let done : place_step run.0 10 ≡ End = chosen run.0 (place_step run.0 10) refl (sym (walk_step run.0 10 []) ∙ run.2) in
     ap (pass body (in_size First [])) (line_split l rest) ∙ run.3
     ∙ one_byte body run.0 (unended_line l) 10 rest End size done

@@ -8,7 +8,8 @@ use Rattle.ba_http_body.specs.declared.size_lines.Step.TheVariants.{More, End, B
 use Rattle.ba_http_body.specs.declared.size_lines.Place.{Place}
 use Rattle.ba_http_body.specs.declared.size_lines.Place.TheVariants.{First, Digits, Blank, Extension, Return}
 use Rattle.ba_http_body.specs.inside.Places.{HasRead, Steps}
-use Rattle.ba_http_body.proofs.LineSteps.{first_digit, next_digit, first_blank, next_blank, first_text, blank_text, next_text, digits_return, blank_return, text_return, ends}
+use Rattle.ba_http_body.proofs.LineSteps.{first_digit, next_digit, first_blank, next_blank, first_text, blank_text, next_text}
+use Rattle.ba_http_body.proofs.LineSteps.{digits_return, blank_return, text_return, ends}
 use Rattle.ba_http_body.proofs.Walks.{walk, dead_first, dead_blank, dead_digits, text_is, dead_text, dead_return}
 
 -- after digits and white space

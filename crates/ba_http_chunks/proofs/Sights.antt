@@ -1,5 +1,6 @@
 -- What shows itself of a body in chunks is one thing, at one byte; for the laws.
-use Rattle.std.proofs.Common.{◌≡◌, ℕ, ◌+◌, ◌-◌, ◌≤◌, inl, inr, List, [], ◌∷◌, ◌++◌, length, take, drop, refl, sym, ap, ◌∙◌, subst, arith, append-nil, append_assoc, length-append, length-drop, take-append-drop}
+use Rattle.std.proofs.Common.{◌≡◌, ℕ, ◌+◌, ◌-◌, ◌≤◌, inl, inr, List, [], ◌∷◌, ◌++◌, length, take, drop, refl, sym, ap, ◌∙◌, subst, arith}
+use Rattle.std.proofs.Common.{append-nil, append_assoc, length-append, length-drop, take-append-drop}
 use Rattle.std.proofs.lemmas.Bool.{ne_eqb}
 use Rattle.std.proofs.Math.Seq.{take-append_seam}
 use Rattle.ba_http_head.specs.declared.headings.Heading.TheVariants.{Trailer}
@@ -10,8 +11,12 @@ use Rattle.ba_http_head.specs.Looks.{Shows}
 use Rattle.ba_http_head.proofs.Once.{first_of, shows_once}
 use Rattle.ba_http_body.specs.declared.size_lines.Place.TheVariants.{First}
 use Rattle.ba_http_body.specs.SizeLines.{SizeLine, print_size_line}
-use Rattle.ba_http_chunks.specs.Transfers.{size_of, Chunk, print_chunks, bytes_of, AreChunks, IsLastLine, BeginsChunk, Position, in_line, in_bytes, in_end, in_trailer, bytes_at, GoesOn, IsUnended, IsWrongByte, Sight, whole, broken, large, ShowsBody}
-use Rattle.ba_http_chunks.proofs.Passes.{in_size, in_data, before_feed, Led, on, to_limit, to_wrong, to_trailer, pass, line_begun, line_passed, line_too_long, line_wrong, data_passed, data_begun, data_too_long, none_left, chunks_passed, wrong_return, return_passed, wrong_feed, none_more}
+use Rattle.ba_http_chunks.specs.Transfers.{size_of, Chunk, print_chunks, bytes_of, AreChunks, IsLastLine, BeginsChunk, Position, in_line}
+use Rattle.ba_http_chunks.specs.Transfers.{in_bytes, in_end, in_trailer, bytes_at, GoesOn, IsUnended, IsWrongByte, Sight, whole, broken}
+use Rattle.ba_http_chunks.specs.Transfers.{large, ShowsBody}
+use Rattle.ba_http_chunks.proofs.Passes.{in_size, in_data, before_feed, Led, on, to_limit, to_wrong, to_trailer, pass, line_begun}
+use Rattle.ba_http_chunks.proofs.Passes.{line_passed, line_too_long, line_wrong, data_passed, data_begun, data_too_long, none_left}
+use Rattle.ba_http_chunks.proofs.Passes.{chunks_passed, wrong_return, return_passed, wrong_feed, none_more}
 
 -- what is seen where the trailer shows this
 abbrev sight_of : List ℕ → ℕ → Shown → Sight
@@ -24,7 +29,8 @@ data Shape (t : List ℕ) (sight : Sight) (extra : List ℕ) : Type 0 where
   limit : pass [] (in_size First []) (t ++ extra) ≡ to_limit extra → sight ≡ large → Shape t sight extra
   wrong : pass [] (in_size First []) (t ++ extra) ≡ to_wrong extra → sight ≡ broken (length t - 1) → Shape t sight extra
   trailing : (body trailer : List ℕ) → (shown : Shown) → pass [] (in_size First []) (t ++ extra) ≡ to_trailer body (trailer ++ extra)
-      → Shows Trailer trailer shown → length trailer ≤ length t → sight ≡ sight_of body (length t - length trailer) shown → Shape t sight extra
+      → Shows Trailer trailer shown → length trailer ≤ length t → sight ≡ sight_of body (length t - length trailer) shown
+      → Shape t sight extra
 
 -- after whole chunks
 after_chunks : (chunks : List Chunk) (t rest extra : List ℕ) → AreChunks chunks → t ≡ print_chunks chunks ++ rest
@@ -37,7 +43,8 @@ after_chunks chunks t rest extra are is =
 -- in a chunk
 in_chunk : (chunks : List Chunk) (line : SizeLine) (some rest : List ℕ) (left : ℕ) → BeginsChunk chunks line
     → length some + left ≡ size_of line
-    → pass (bytes_of chunks) (in_size First []) ((print_size_line line ++ some) ++ rest) ≡ pass (bytes_of chunks ++ some) (in_data left) rest
+    → pass (bytes_of chunks) (in_size First []) ((print_size_line line ++ some) ++ rest)
+    ≡ pass (bytes_of chunks ++ some) (in_data left) rest
 in_chunk chunks line some rest left begun sum =
     ap (pass (bytes_of chunks) (in_size First [])) (append_assoc (print_size_line line) some rest)
     ∙ line_passed (bytes_of chunks) line (some ++ rest) begun.line
@@ -77,7 +84,8 @@ both_sizes before trailer t is = ap length is ∙ length-append before trailer
 
 shaped : (t : List ℕ) (sight : Sight) (extra : List ℕ) → ShowsBody t sight → Shape t sight extra
 shaped t (whole body) extra s =
-    let split : t ≡ (print_chunks s.0 ++ print_size_line s.1) ++ s.2 = s.6 ∙ sym (append_assoc (print_chunks s.0) (print_size_line s.1) s.2) in
+    let split : t ≡ (print_chunks s.0 ++ print_size_line s.1) ++ s.2 =
+    s.6 ∙ sym (append_assoc (print_chunks s.0) (print_size_line s.1) s.2) in
     trailing (bytes_of s.0) s.2 Whole (to_the_trailer s.0 s.1 t s.2 extra s.3 s.4 s.6) s.5
     (omega (arith, both_sizes (print_chunks s.0 ++ print_size_line s.1) s.2 t split)) (ap whole s.7)
 shaped t (broken place) extra s =
@@ -202,9 +210,11 @@ bare chunks bytes rest are is =
 -- of a chunk some bytes are left, or none
 in_chunk_bare : (chunks : List Chunk) (line : SizeLine) (some rest : List ℕ) (left : ℕ) → BeginsChunk chunks line
     → length some + left ≡ size_of line
-    → pass (bytes_of chunks) (in_size First []) (print_size_line line ++ (some ++ rest)) ≡ pass (bytes_of chunks ++ some) (in_data left) rest
+    → pass (bytes_of chunks) (in_size First []) (print_size_line line ++ (some ++ rest))
+    ≡ pass (bytes_of chunks ++ some) (in_data left) rest
 in_chunk_bare chunks line some rest left begun sum =
-    ap (pass (bytes_of chunks) (in_size First [])) (sym (append_assoc (print_size_line line) some rest)) ∙ in_chunk chunks line some rest left begun sum
+    ap (pass (bytes_of chunks) (in_size First [])) (sym (append_assoc (print_size_line line) some rest))
+    ∙ in_chunk chunks line some rest left begun sum
 
 going : (bytes : List ℕ) (chunks : List Chunk) (at : Position) → AreChunks chunks → GoesOn chunks at
     → bytes ≡ print_chunks chunks ++ bytes_at at → Going bytes

@@ -1,5 +1,6 @@
 -- One byte more of a transfer, or some of a chunk; for the clauses of the functions that take them.
-use Rattle.std.proofs.Common.{◌≡◌, ℕ, ◌+◌, ◌-◌, ◌*◌, ◌^◌, ◌<◌, ◌≤◌, inl, inr, min, List, [], ◌∷◌, ◌++◌, length, refl, sym, ap, ◌∙◌, subst, arith, append-nil, append_assoc, length-append, Result, Ok, Err, All}
+use Rattle.std.proofs.Common.{◌≡◌, ℕ, ◌+◌, ◌-◌, ◌*◌, ◌^◌, ◌<◌, ◌≤◌, inl, inr, min, List, [], ◌∷◌, ◌++◌, length, refl, sym, ap, ◌∙◌, subst}
+use Rattle.std.proofs.Common.{arith, append-nil, append_assoc, length-append, Result, Ok, Err, All}
 use Rattle.std.proofs.lemmas.List.Elements.{All-head, All-tail, All-push, All-nil}
 use Rattle.ba_http_head.specs.declared.faults.HttpFault.{HttpFault}
 use Rattle.ba_http_head.specs.declared.faults.HttpFault.TheVariants.{Memory, BadHead, Length, TooLarge, BadChunk, Truncated, Read}
@@ -15,7 +16,8 @@ use Rattle.ba_http_chunks.specs.declared.chunks.Spot.{Spot}
 use Rattle.ba_http_chunks.specs.declared.chunks.Spot.TheVariants.{Line, Bytes, Feed}
 use Rattle.ba_http_chunks.specs.declared.chunks.Turned.{Turned}
 use Rattle.ba_http_chunks.specs.declared.chunks.Turned.TheVariants.{On, Last}
-use Rattle.ba_http_chunks.specs.Transfers.{size_of, IsShortLine, Chunk, IsChunk, print_chunk, print_chunks, bytes_of, Position, in_line, in_bytes, in_end, in_trailer, bytes_at, GoesOn, IsUnended, Breaks, Passes}
+use Rattle.ba_http_chunks.specs.Transfers.{size_of, IsShortLine, Chunk, IsChunk, print_chunk, print_chunks, bytes_of, Position, in_line}
+use Rattle.ba_http_chunks.specs.Transfers.{in_bytes, in_end, in_trailer, bytes_at, GoesOn, IsUnended, Breaks, Passes}
 use Rattle.ba_http_chunks.specs.inside.Progress.{SaysSoFar, body_at, got_at, IsAt, Stands, IsBeforeTrailer, Turns, Sized}
 use Rattle.ba_http_chunks.proofs.Leading.{says_size}
 use Rattle.ba_http_chunks.proofs.LinesGoOn.{begins}
@@ -166,7 +168,12 @@ module _ (c : Chunks) (l : SizeSoFar) (here : c.spot ≡ Line l) (fed body : Lis
   pub line_on : l.length < MOST_SIZE_LINE → (place : Place) (size : ℕ)
       → ((some : List ℕ) → HasRead l.place some → HasRead place (some ++ b ∷ []))
       → ((some : List ℕ) → HasRead l.place some → SaysSoFar some l.size → SaysSoFar (some ++ b ∷ []) size)
-      → Stands (record { spot = Line (record { place = place; length = l.length + 1; size = size }); got = c.got; count = min (c.count + 1) (2 ^ 64 - 1) })
+      → Stands (record {
+        spot = Line (record { place = place; length = l.length + 1; size = size });
+        got = c.got;
+        count =
+            min (c.count + 1) (2 ^ 64 - 1);
+      })
       (fed ++ b ∷ []) body
   line_on short place size reads says = record {
     chunks = s.chunks;
@@ -249,8 +256,11 @@ pub line_ended : (c : Chunks) (l : SizeSoFar) (b size : ℕ) (r : Result Turned 
 line_ended c l b size (Ok (On next n)) here short ends says z =
     let to : next ≡ record { spot = Bytes size; got = min (c.got + size) (2 ^ 64 - 1); count = min (c.count + 1) (2 ^ 64 - 1) } =
     cc (z.2) in
-    let one : n ≡ 1 = cc (z.2) in
-    (one, λ fed body s. subst (λ v. Stands v (fed ++ b ∷ []) body) (sym to) (chunk_begun c l here fed body s b short size ends says z.0 z.1))
+    let one : n ≡ 1 = cc (z.2) in (
+      one,
+      λ fed body s. subst (λ v. Stands v (fed ++ b ∷ []) body) (sym to)
+          (chunk_begun c l here fed body s b short size ends says z.0 z.1),
+    )
 line_ended c l b size (Ok (Last count)) here short ends says z =
     λ fed body s. subst (λ v. IsBeforeTrailer v (fed ++ b ∷ []) body) (sym z.1) (last_line c l here fed body s b short size ends says z.0)
 line_ended c l b size (Err Memory) here short ends says z = absurd z
@@ -356,7 +366,12 @@ module _ (c : Chunks) (here : c.spot ≡ Feed) (fed body : List ℕ) (s : Stands
       ∙ (length-append (bytes_of s.chunks) ending.1 ∙ ap (λ n. length (bytes_of s.chunks) + n) ending.3.1)
 
   pub feed_taken : b ≡ 10
-      → Stands (record { spot = Line (record { place = First; length = 0; size = 0 }); got = c.got; count = min (c.count + 1) (2 ^ 64 - 1) })
+      → Stands (record {
+        spot = Line (record { place = First; length = 0; size = 0 });
+        got = c.got;
+        count =
+            min (c.count + 1) (2 ^ 64 - 1);
+      })
       (fed ++ b ∷ []) body
   feed_taken is = record {
     chunks = s.chunks ++ chunk_of ending.0 ending.1 ∷ [];

@@ -1,5 +1,6 @@
 -- A trailer, after one more read; for the clause `trailer`.
-use Rattle.std.proofs.Common.{◌≡◌, ℕ, ◌+◌, ◌≤◌, ◌⊎◌, inl, inr, List, [], ◌∷◌, ◌++◌, length, take, refl, sym, ap, ◌∙◌, subst, arith, append-nil, append_assoc, length-append, Option, Result, Err}
+use Rattle.std.proofs.Common.{◌≡◌, ℕ, ◌+◌, ◌≤◌, ◌⊎◌, inl, inr, List, [], ◌∷◌, ◌++◌, length, take, refl, sym, ap, ◌∙◌, subst, arith}
+use Rattle.std.proofs.Common.{append-nil, append_assoc, length-append, Option, Result, Err}
 use Rattle.std.proofs.lemmas.Bool.{cases_lt}
 use Rattle.std.proofs.Math.Seq.{take-append_seam}
 use Rattle.std.specs.Io.KnownBytes.{Consumes, Keeps}
@@ -28,7 +29,8 @@ bad_within trailer at shows =
     ]
 
 -- one more read, of which nothing had shown itself before
-pub trailer_on : (hand all taken : List ℕ) (count : ℕ) (old mid new : Option (List ℕ)) (more : List ℕ) (result : Result (Unit {0}) HttpFault)
+pub trailer_on : (hand all taken : List ℕ) (count : ℕ) (old mid new : Option (List ℕ)) (more : List ℕ)
+    (result : Result (Unit {0}) HttpFault)
     → all ≡ hand ++ taken → Consumes old mid taken → Consumes mid new more → IsOpen Trailer all → length more ≤ BLOCK
     → TrailerSo (all ++ more) count new result → ReadsTrailer hand count old new result
 trailer_on hand all taken count old mid new more result is before last yet small so = (

@@ -3,7 +3,8 @@ use Rattle.std.proofs.Common.{◌≡◌, ℕ, true, List, [], ◌∷◌, ◌++�
 use Rattle.std.specs.Prelude.{codes}
 use Rattle.std.specs.Char.{is_ascii_digit}
 use Rattle.std.proofs.lemmas.List.Elements.{All-nil, All-cons}
-use Rattle.httparse.specs.Grammar.{AllPass, is_token_byte, is_uri_byte, is_value_byte, LineEnd, lf, print_blank, RequestHead, ReadsRequest, IsRequestHead, ResponseHead, ReadsResponse, IsResponseHead, IsField}
+use Rattle.httparse.specs.Grammar.{AllPass, is_token_byte, is_uri_byte, is_value_byte, LineEnd, lf, print_blank, RequestHead, ReadsRequest}
+use Rattle.httparse.specs.Grammar.{IsRequestHead, ResponseHead, ReadsResponse, IsResponseHead, IsField}
 use Rattle.ba_http_head.specs.declared.headings.Heading.TheVariants.{Request, Reply}
 use Rattle.ba_http_head.specs.inside.Asks.{HasWhole}
 use Rattle.ba_http_head.specs.HeadLines.{filled_lines, NeverWhole}

@@ -1,5 +1,6 @@
 -- What the parser finds of a head that is whole; for request_head and reply_head.
-use Rattle.std.proofs.Common.{◌≡◌, ℕ, ◌≤◌, inl, inr, true, false, if◌then◌else◌, List, [], ◌∷◌, length, ap, subst, arith, Result, Ok, Err, Option, Some}
+use Rattle.std.proofs.Common.{◌≡◌, ℕ, ◌≤◌, inl, inr, true, false, if◌then◌else◌, List, [], ◌∷◌, length, ap, subst, arith, Result, Ok, Err}
+use Rattle.std.proofs.Common.{Option, Some}
 use Rattle.std.specs.Prelude.{nat_le}
 use Rattle.std.specs.List.{list_all}
 use Rattle.std.specs.Str.Parse.{digits_value}
@@ -8,7 +9,8 @@ use Rattle.httparse.specs.Grammar.{RequestHead, ReadsRequest, ResponseHead, Read
 use Rattle.ba_http_head.specs.declared.headings.Heading.{Heading}
 use Rattle.ba_http_head.specs.declared.headings.Heading.TheVariants.{Request, Reply}
 use Rattle.ba_http_head.specs.declared.faults.HttpFault.{HttpFault}
-use Rattle.ba_http_head.specs.declared.faults.HttpFault.TheVariants.{Memory, BadHead, Length as NoLength, TooLarge, BadChunk, Truncated, Read}
+use Rattle.ba_http_head.specs.declared.faults.HttpFault.TheVariants.{Memory, BadHead, Length as NoLength, TooLarge, BadChunk, Truncated}
+use Rattle.ba_http_head.specs.declared.faults.HttpFault.TheVariants.{Read}
 use Rattle.ba_http_head.specs.declared.lengths.Length.{Length}
 use Rattle.ba_http_head.specs.declared.lengths.Length.TheVariants.{Counted, Chunked}
 use Rattle.ba_http_head.specs.declared.lengths.TheConstants.{MOST_BODY}

@@ -1,5 +1,7 @@
 -- One byte more of a head or a trailer; for the clauses of look.
-use Rattle.std.proofs.Common.{◌≡◌, ℕ, ◌+◌, ◌-◌, ◌<◌, ◌≤◌, Bool, true, false, not, cond, if◌then◌else◌, nat_eq, List, [], ◌∷◌, ◌++◌, length, take, drop, refl, sym, ap, ◌∙◌, subst, arith, append_assoc, append-nil, length-append, take-append-drop, take_all, inl, inr}
+use Rattle.std.proofs.Common.{◌≡◌, ℕ, ◌+◌, ◌-◌, ◌<◌, ◌≤◌, Bool, true, false, not, cond, if◌then◌else◌, nat_eq, List, [], ◌∷◌, ◌++◌, length}
+use Rattle.std.proofs.Common.{take, drop, refl, sym, ap, ◌∙◌, subst, arith, append_assoc, append-nil, length-append, take-append-drop}
+use Rattle.std.proofs.Common.{take_all, inl, inr}
 use Rattle.std.specs.Prelude.{◌||◌}
 use Rattle.std.specs.List.{count_by}
 use Rattle.std.proofs.lemmas.List.{take-append-le, drop-append-le, take_more, drop-take, length-take-le}
@@ -17,7 +19,8 @@ use Rattle.ba_http_head.specs.declared.scans.LineStart.{LineStart}
 use Rattle.ba_http_head.specs.declared.scans.Shown.TheVariants.{Whole, Bad, Large}
 use Rattle.ba_http_head.specs.inside.Asks.{HasWhole}
 use Rattle.ba_http_head.specs.declared.scans.TheConstants.{MOST_HEAD, MOST_FIELDS}
-use Rattle.ba_http_head.specs.HeadLines.{IsWhole, NeverWhole, EndsInFeed, BeginsLine, has_feed, is_empty_line, filled_lines, field_lines, IsPastLimits, EndsBadLine, Settles, IsOpen, SettlesFirst}
+use Rattle.ba_http_head.specs.HeadLines.{IsWhole, NeverWhole, EndsInFeed, BeginsLine, has_feed, is_empty_line, filled_lines, field_lines}
+use Rattle.ba_http_head.specs.HeadLines.{IsPastLimits, EndsBadLine, Settles, IsOpen, SettlesFirst}
 use Rattle.ba_http_head.specs.Looks.{Shows, IsLooked}
 use Rattle.ba_http_head.proofs.LineLemmas.{filled_append, line_first}
 use Rattle.ba_http_head.proofs.Ends.{ends_after, end_ends, request_split, response_split, not_last}

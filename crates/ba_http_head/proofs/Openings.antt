@@ -1,8 +1,10 @@
 -- A head that was fetched, with what it says; for the clauses `head` of read_head and read_reply_head.
-use Rattle.std.proofs.Common.{◌≡◌, ℕ, ◌-◌, ◌≤◌, inl, inr, List, ◌++◌, length, take, drop, ap, ◌∙◌, subst, arith, Result, Ok, Err, Option, take_all, length-drop}
+use Rattle.std.proofs.Common.{◌≡◌, ℕ, ◌-◌, ◌≤◌, inl, inr, List, ◌++◌, length, take, drop, ap, ◌∙◌, subst, arith, Result, Ok, Err, Option}
+use Rattle.std.proofs.Common.{take_all, length-drop}
 use Rattle.ba_http_head.specs.declared.headings.Heading.{Heading}
 use Rattle.ba_http_head.specs.declared.faults.HttpFault.{HttpFault}
-use Rattle.ba_http_head.specs.declared.faults.HttpFault.TheVariants.{Memory, BadHead, Length as NoLength, TooLarge, BadChunk, Truncated, Read}
+use Rattle.ba_http_head.specs.declared.faults.HttpFault.TheVariants.{Memory, BadHead, Length as NoLength, TooLarge, BadChunk, Truncated}
+use Rattle.ba_http_head.specs.declared.faults.HttpFault.TheVariants.{Read}
 use Rattle.ba_http_head.specs.declared.fetches.Fetched.{Fetched}
 use Rattle.ba_http_head.specs.declared.scans.Shown.TheVariants.{Whole}
 use Rattle.ba_http_head.specs.declared.lengths.Length.{Length}

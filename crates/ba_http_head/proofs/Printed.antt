@@ -1,11 +1,14 @@
 -- A printed head or trailer has as many lines that count as it has fields.
-use Rattle.std.proofs.Common.{◌≡◌, ℕ, ◌+◌, ◌<◌, ◌≤◌, Bool, true, false, nat_eq, List, [], ◌∷◌, ◌++◌, length, drop, refl, sym, ap, ◌∙◌, subst, arith, append_assoc, flat_map}
+use Rattle.std.proofs.Common.{◌≡◌, ℕ, ◌+◌, ◌<◌, ◌≤◌, Bool, true, false, nat_eq, List, [], ◌∷◌, ◌++◌, length, drop, refl, sym, ap, ◌∙◌}
+use Rattle.std.proofs.Common.{subst, arith, append_assoc, flat_map}
 use Rattle.std.specs.Prelude.{All, ◌||◌}
 use Rattle.std.proofs.lemmas.Bool.{eqb-true}
 use Rattle.std.proofs.lemmas.List.Elements.{All-head, All-tail}
 use Rattle.std.specs.Char.{is_ascii_digit}
 use Rattle.std.specs.Prelude.{Option, None, Some}
-use Rattle.httparse.specs.Grammar.{reason_phrase, is_token_byte, is_uri_byte, is_value_byte, AllPass, LineEnd, print_end, print_blank, print_version, Field, print_field, IsField, print_section, RequestHead, print_request, ReadsRequest, ResponseHead, print_response, print_reason, ReadsResponse}
+use Rattle.httparse.specs.Grammar.{reason_phrase, is_token_byte, is_uri_byte, is_value_byte, AllPass, LineEnd, print_end, print_blank}
+use Rattle.httparse.specs.Grammar.{print_version, Field, print_field, IsField, print_section, RequestHead, print_request, ReadsRequest}
+use Rattle.httparse.specs.Grammar.{ResponseHead, print_response, print_reason, ReadsResponse}
 use Rattle.httparse.proofs.GrammarLemmas.{print_request-append, print_response-append}
 use Rattle.ba_http_head.specs.HeadLines.{has_feed, filled_lines}
 use Rattle.ba_http_head.proofs.LineLemmas.{filled_counts, empty_counts, feed_append}

@@ -1,5 +1,6 @@
 -- What was found after one more read; for the clause `found` of fetch_by.
-use Rattle.std.proofs.Common.{◌≡◌, ℕ, ◌≤◌, List, [], ◌∷◌, ◌++◌, length, take, Option, None, Some, Result, Err, refl, sym, ◌∙◌, subst, arith, append-nil}
+use Rattle.std.proofs.Common.{◌≡◌, ℕ, ◌≤◌, List, [], ◌∷◌, ◌++◌, length, take, Option, None, Some, Result, Err, refl, sym, ◌∙◌, subst, arith}
+use Rattle.std.proofs.Common.{append-nil}
 use Rattle.std.specs.Io.KnownBytes.{Consumes, Keeps}
 use Rattle.std.proofs.Common.{◌⊎◌, inl, inr}
 use Rattle.ba_http_head.specs.declared.faults.HttpFault.TheVariants.{Memory, Read}

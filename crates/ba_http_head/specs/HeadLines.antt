@@ -2,7 +2,8 @@
 use Rattle.std.specs.Prelude.{◌≡◌, ℕ, ◌-◌, ◌<◌, ◌≤◌, ◌⊎◌, Bool, true, false, not, nat_eq, List, [], ◌∷◌, ◌++◌, length, take}
 use Rattle.std.specs.List.{count_by, list_any}
 use Rattle.ba_ports.specs.Lines.{lines_of}
-use Rattle.httparse.specs.Grammar.{LineEnd, Field, ReadsSection, NeverHasSection, RequestHead, ReadsRequest, NeverHasRequest, ResponseHead, ReadsResponse, NeverHasResponse}
+use Rattle.httparse.specs.Grammar.{LineEnd, Field, ReadsSection, NeverHasSection, RequestHead, ReadsRequest, NeverHasRequest, ResponseHead}
+use Rattle.httparse.specs.Grammar.{ReadsResponse, NeverHasResponse}
 use Rattle.ba_http_head.specs.declared.headings.Heading.{Heading}
 use Rattle.ba_http_head.specs.declared.headings.Heading.TheVariants.{Request, Reply, Trailer}
 use Rattle.ba_http_head.specs.declared.scans.TheConstants.{MOST_HEAD, MOST_FIELDS}

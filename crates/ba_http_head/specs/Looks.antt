@@ -5,7 +5,8 @@ use Rattle.ba_http_head.specs.declared.headings.Heading.{Heading}
 use Rattle.ba_http_head.specs.declared.scans.LineStart.{LineStart}
 use Rattle.ba_http_head.specs.declared.scans.Shown.{Shown}
 use Rattle.ba_http_head.specs.declared.scans.Shown.TheVariants.{Whole, Bad, Large}
-use Rattle.ba_http_head.specs.HeadLines.{IsWhole, EndsBadLine, IsPastLimits, IsOpen, SettlesFirst, BeginsLine, LastLineAt, has_feed, filled_lines}
+use Rattle.ba_http_head.specs.HeadLines.{IsWhole, EndsBadLine, IsPastLimits, IsOpen, SettlesFirst, BeginsLine, LastLineAt, has_feed}
+use Rattle.ba_http_head.specs.HeadLines.{filled_lines}
 
 -- what shows itself at the last of these bytes, and not before; at one byte a limit comes first
 abbrev pub Shows : Heading → List ℕ → Shown → Type 0

@@ -1,5 +1,6 @@
 -- A journal's file from its last gate on, and what the changes that repair it leave, also where they are torn.
-use Rattle.std.proofs.Common.{◌≤◌, ◌<◌, ◌≡◌, inr, ⊎_elim, ℕ, zero, suc, ◌+◌, ◌-◌, Bool, true, false, nat_eq, nat_lt, if◌then◌else◌, List, [], ◌∷◌, ◌++◌, length, take, drop, None, refl, sym, ◌∙◌, ap, subst, arith, length-append}
+use Rattle.std.proofs.Common.{◌≤◌, ◌<◌, ◌≡◌, inr, ⊎_elim, ℕ, zero, suc, ◌+◌, ◌-◌, Bool, true, false, nat_eq, nat_lt, if◌then◌else◌, List}
+use Rattle.std.proofs.Common.{[], ◌∷◌, ◌++◌, length, take, drop, None, refl, sym, ◌∙◌, ap, subst, arith, length-append}
 use Rattle.std.specs.Int.{w32, from_le_bytes}
 use Rattle.std.proofs.Math.Seq.{take-append-add}
 use Rattle.std.proofs.lemmas.List.{append-nil, take_at, drop_at, take-append-drop, length-take, length-drop}
@@ -23,12 +24,14 @@ take-take (suc m) (suc k) [] less = refl
 take-take (suc m) (suc k) (x ∷ xs) less = ap (λ (l : List ℕ). x ∷ l) (take-take m k xs (omega (arith, less)))
 
 too_short : (size : ℕ) (bytes : List ℕ) → length bytes ≤ size → payload_of size bytes ≡ None
-too_short size bytes short = framed_by (nat_lt size (length bytes)) size bytes ∙ ap (λ (b : Bool). framed b size bytes) (le-ltb size (length bytes) short)
+too_short size bytes short = framed_by (nat_lt size (length bytes)) size bytes
+    ∙ ap (λ (b : Bool). framed b size bytes) (le-ltb size (length bytes) short)
 
 is_too_short : (size : ℕ) (bytes : List ℕ) → payload_of size bytes ≡ None → length bytes ≤ size
 is_too_short size bytes none = ⊎_elim
     (λ less.
-    let some : framed true size bytes ≡ None = sym (ap (λ (b : Bool). framed b size bytes) (lt-ltb size (length bytes) less)) ∙ sym (framed_by (nat_lt size (length bytes)) size bytes) ∙ none in
+    let some : framed true size bytes ≡ None = sym (ap (λ (b : Bool). framed b size bytes) (lt-ltb size (length bytes) less))
+    ∙ sym (framed_by (nat_lt size (length bytes)) size bytes) ∙ none in
     absurd cc)
     (λ short. short)
     (cases_lt size (length bytes))
@@ -73,7 +76,8 @@ stem_of file records rest holds =
     let fronts = fronts_of (drop 16 file) holds.payloads rest holds.frames in
     record {
       own = header ++ fronts.own;
-      is = sym (take-append-drop 16 file) ∙ ap (λ (h : List ℕ). h ++ drop 16 file) holds.headed ∙ ap (λ (b : List ℕ). header ++ b) fronts.is;
+      is = sym (take-append-drop 16 file) ∙ ap (λ (h : List ℕ). h ++ drop 16 file) holds.headed
+          ∙ ap (λ (b : List ℕ). header ++ b) fronts.is;
       other = λ o some none. record {
         made = made_with fronts.own o some;
         headed = refl;
@@ -87,7 +91,8 @@ stem_of file records rest holds =
 -- there is a last gate
 some_rest : (bytes : List ℕ) (payloads : List (List ℕ)) (rest : List ℕ) → 0 < length bytes → Leads bytes payloads rest → 0 < length rest
 some_rest bytes [] rest some leads = omega (arith, ap length leads, some)
-some_rest bytes (payload ∷ payloads) rest some leads = some_rest leads.0 payloads rest (frame_length bytes payload leads.0 leads.1).1 leads.2
+some_rest bytes (payload ∷ payloads) rest some leads =
+    some_rest leads.0 payloads rest (frame_length bytes payload leads.0 leads.1).1 leads.2
 
 pub has_gate : (file : List ℕ) (records : List Record) (rest : List ℕ) → Holds file records rest → 0 < length rest
 has_gate file records rest holds =
@@ -126,7 +131,8 @@ module _ (file : List ℕ) (records : List Record) (byte : ℕ) (behind : List �
   cut_stands c cut =
       let k = cut.end - (gate + 1) in
       let whole : c ≡ own ++ byte ∷ take k behind = cut.front ∙ front cut.end k (omega (arith, cut.no_shorter)) in
-      subst (λ (f : List ℕ). StandsFor f records) (sym whole) (inr (byte ∷ take k behind, stem.other (byte ∷ take k behind) (omega arith) (frame_cut byte behind k holds.stops)))
+      subst (λ (f : List ℕ). StandsFor f records) (sym whole)
+      (inr (byte ∷ take k behind, stem.other (byte ∷ take k behind) (omega arith) (frame_cut byte behind k holds.stops)))
 
   pub cut_done : take (gate + 1) file ≡ own ++ byte ∷ []
   cut_done = front (gate + 1) 0 (omega arith)
@@ -145,7 +151,15 @@ module _ (file : List ℕ) (records : List Record) (byte : ℕ) (behind : List �
       let cut : c ≡ own ++ torn.range = torn.bytes
       ∙ ap (λ (l : List ℕ). l ++ torn.range ++ drop (gate + 1) (own ++ byte ∷ [])) ahead
       ∙ ap (λ (l : List ℕ). own ++ torn.range ++ l) none_behind ∙ append-nil (own ++ torn.range) in
-      let other = one_byte torn.range (omega (arith, torn.no_shorter, torn.no_longer, ap length cut, length-append own torn.range, size, length-with byte)) in
+      let other = one_byte torn.range (omega (
+        arith,
+        torn.no_shorter,
+        torn.no_longer,
+        ap length cut,
+        length-append own torn.range,
+        size,
+        length-with byte,
+      )) in
       let whole : c ≡ own ++ other.0 ∷ [] = cut ∙ ap (λ (l : List ℕ). own ++ l) other.1 in
       subst (λ (f : List ℕ). StandsFor f records) (sym whole) (stands_with other.0)
 
@@ -165,7 +179,8 @@ pub record Gated (file : List ℕ) (records : List Record) (gate : ℕ) (end : T
 gated_by : (file : List ℕ) (records : List Record) (gate : ℕ) (end : Tail) (rest : List ℕ)
     → Holds file records rest → gate ≡ length file - length rest → IsTail end rest → Gated file records gate end
 gated_by file records gate end [] holds place kind = absurd (omega (arith, has_gate file records [] holds))
-gated_by file records gate end (byte ∷ behind) holds place kind = record { byte = byte; behind = behind; holds = holds; place = place; kind = kind }
+gated_by file records gate end (byte ∷ behind) holds place kind =
+    record { byte = byte; behind = behind; holds = holds; place = place; kind = kind }
 
 pub gated : (file : List ℕ) (records : List Record) (gate : ℕ) (end : Tail) → Finds file records gate end → Gated file records gate end
 gated file records gate end found = gated_by file records gate end found.0 found.1 found.2 found.3

@@ -1,5 +1,6 @@
 -- What the writes of one more frame make of a journal's file, also where they are torn.
-use Rattle.std.proofs.Common.{max, ◌≤◌, ◌≡◌, inl, inr, ℕ, ◌+◌, List, [], ◌∷◌, ◌++◌, length, take, drop, refl, sym, ◌∙◌, ap, subst, arith, append_assoc, length-append}
+use Rattle.std.proofs.Common.{max, ◌≤◌, ◌≡◌, inl, inr, ℕ, ◌+◌, List, [], ◌∷◌, ◌++◌, length, take, drop, refl, sym, ◌∙◌, ap, subst, arith}
+use Rattle.std.proofs.Common.{append_assoc, length-append}
 use Rattle.std.proofs.lemmas.List.{append-nil, length-take, length-drop, take_at, drop_at, take_all, drop_all}
 use Rattle.std.proofs.lemmas.Bool.{cases_eq}
 use Rattle.ba_ports.specs.Disk.{Torn, written_at, Done, NoMore, Only}
@@ -14,7 +15,8 @@ one [] is = absurd (omega arith)
 one (gate ∷ []) is = (gate, refl)
 one (gate ∷ b ∷ range) is = absurd (omega arith)
 
-pub length-written : (place : ℕ) (bytes file : List ℕ) → place ≤ length file → length (written_at place bytes file) ≡ max (length file) (place + length bytes)
+pub length-written : (place : ℕ) (bytes file : List ℕ) → place ≤ length file
+    → length (written_at place bytes file) ≡ max (length file) (place + length bytes)
 length-written place bytes file within = omega (
   arith,
   within,
@@ -70,14 +72,16 @@ module _ (file : List ℕ) (records : List Record) (gate : ℕ) (rest : AtRest f
   pub length-after : (behind : List ℕ) → length (before_last file ++ 1 ∷ behind) ≡ gate + 1 + length behind
   length-after behind = omega (arith, size, length-append (before_last file) (1 ∷ behind))
 
-  pub stage_crash : (count : ℕ) (old new : List ℕ → Type 0) → Only file old → NoMore (Done (Torn (gate + 1) count) old) new → (c : List ℕ) → new c → StandsFor c records
+  pub stage_crash : (count : ℕ) (old new : List ℕ → Type 0) → Only file old → NoMore (Done (Torn (gate + 1) count) old) new → (c : List ℕ)
+      → new c → StandsFor c records
   stage_crash count old new only done c left =
       let from = done c left in
       torn_behind count c (subst (λ f. Torn (gate + 1) count f c) (only from.0 from.1) from.2)
 
   module _ (last : Record) (behind : List ℕ) (frame : IsFrameOf behind last) where
     pub after : AtRest (before_last file ++ 1 ∷ behind) (records ++ last ∷ [])
-    after = subst (λ (b : List ℕ). AtRest (before_last file ++ 1 ∷ b) (records ++ last ∷ [])) (sym frame.bytes) (one_more file records seat last frame.in_range)
+    after = subst (λ (b : List ℕ). AtRest (before_last file ++ 1 ∷ b) (records ++ last ∷ [])) (sym frame.bytes)
+        (one_more file records seat last frame.in_range)
 
     by_gate : (g : ℕ) → StandsWithOrWithout records last (before_last file ++ g ∷ behind)
     by_gate g = elim (cases_eq g 1) [
@@ -87,13 +91,25 @@ module _ (file : List ℕ) (records : List Record) (gate : ℕ) (rest : AtRest f
 
     torn_gate : (c : List ℕ) → Torn gate 1 (file ++ behind) c → StandsWithOrWithout records last c
     torn_gate c torn =
-        let cut : c ≡ before_last file ++ torn.range ++ behind = torn.bytes ∙ ap (λ (l : List ℕ). l ++ torn.range ++ drop (gate + 1) (file ++ behind)) (ahead behind)
+        let cut : c ≡ before_last file ++ torn.range ++ behind =
+        torn.bytes ∙ ap (λ (l : List ℕ). l ++ torn.range ++ drop (gate + 1) (file ++ behind)) (ahead behind)
         ∙ ap (λ (l : List ℕ). before_last file ++ torn.range ++ l) (back behind) in
-        let gate_is = one torn.range (omega (arith, torn.no_shorter, torn.no_longer, ap length cut, length-append (before_last file ++ torn.range) behind, length-append (before_last file) torn.range, size, length-staged behind)) in
-        let whole : c ≡ before_last file ++ gate_is.0 ∷ behind = cut ∙ append_assoc (before_last file) torn.range behind ∙ ap (λ (l : List ℕ). before_last file ++ (l ++ behind)) gate_is.1 in
+        let gate_is = one torn.range (omega (
+          arith,
+          torn.no_shorter,
+          torn.no_longer,
+          ap length cut,
+          length-append (before_last file ++ torn.range) behind,
+          length-append (before_last file) torn.range,
+          size,
+          length-staged behind,
+        )) in
+        let whole : c ≡ before_last file ++ gate_is.0 ∷ behind =
+        cut ∙ append_assoc (before_last file) torn.range behind ∙ ap (λ (l : List ℕ). before_last file ++ (l ++ behind)) gate_is.1 in
         subst (StandsWithOrWithout records last) (sym whole) (by_gate gate_is.0)
 
-    pub gate_crash : (old new : List ℕ → Type 0) → Only (file ++ behind) old → NoMore (Done (Torn gate 1) old) new → (c : List ℕ) → new c → StandsWithOrWithout records last c
+    pub gate_crash : (old new : List ℕ → Type 0) → Only (file ++ behind) old → NoMore (Done (Torn gate 1) old) new → (c : List ℕ) → new c
+        → StandsWithOrWithout records last c
     gate_crash old new only done c left =
         let from = done c left in
         torn_gate c (subst (λ f. Torn gate 1 f c) (only from.0 from.1) from.2)

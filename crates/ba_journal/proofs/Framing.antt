@@ -5,7 +5,8 @@ use Rattle.ba_record.proofs.Filling.{filled_on, filled_whole}
 
 -- the size, the payload and the next gate were put into an empty room, one behind another
 pub frame_put : (old empty sized paid ended : RoomValue) (digits payload : List ℕ) → empty ≡ record { bytes = []; size = old.size }
-    → sized ≡ filled empty digits → paid ≡ filled sized payload → ended ≡ filled paid (0 ∷ []) → length digits + length payload + 1 ≤ old.size
+    → sized ≡ filled empty digits → paid ≡ filled sized payload → ended ≡ filled paid (0 ∷ [])
+    → length digits + length payload + 1 ≤ old.size
     → ended ≡ record { bytes = digits ++ (payload ++ 0 ∷ []); size = old.size }
 frame_put old empty sized paid ended digits payload is_empty is_sized is_paid is_ended fits =
     let all = payload ++ 0 ∷ [] in

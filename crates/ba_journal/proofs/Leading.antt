@@ -1,5 +1,7 @@
 -- Frames, one after another.
-use Rattle.std.proofs.Common.{◌≡◌, ℕ, suc, ◌+◌, ◌<◌, ◌≤◌, Bool, true, false, not, ◌&&◌, ◌||◌, slice_index, nat_eq, nat_lt, if◌then◌else◌, List, [], ◌∷◌, ◌++◌, length, take, drop, map, Option, None, Some, Result, Ok, Err, refl, sym, ap, ◌∙◌, subst, arith}
+use Rattle.std.proofs.Common.{◌≡◌, ℕ, suc, ◌+◌, ◌<◌, ◌≤◌, Bool, true, false, not, ◌&&◌, ◌||◌, slice_index, nat_eq, nat_lt, if◌then◌else◌}
+use Rattle.std.proofs.Common.{List, [], ◌∷◌, ◌++◌, length, take, drop, map, Option, None, Some, Result, Ok, Err, refl, sym, ap, ◌∙◌, subst}
+use Rattle.std.proofs.Common.{arith}
 use Rattle.std.specs.Int.{w32, from_le_bytes}
 use Rattle.std.proofs.lemmas.List.{length-take, length-drop}
 use Rattle.std.proofs.lemmas.Bool.{ltb-true, ltb-false}
@@ -13,7 +15,9 @@ abbrev pub framed : Bool → ℕ → List ℕ → Option (List ℕ × List ℕ)
 framed true size bytes = Some (take size bytes, drop size bytes)
 framed false size bytes = None
 
-pub framed_by : (fits : Bool) (size : ℕ) (bytes : List ℕ) → let none : Option (List ℕ × List ℕ) = None in (if fits then Some (take size bytes, drop size bytes) else none) ≡ framed fits size bytes
+pub framed_by : (fits : Bool) (size : ℕ) (bytes : List ℕ)
+    → let none : Option (List ℕ × List ℕ) = None in (if fits then Some (take size bytes, drop size bytes) else none)
+    ≡ framed fits size bytes
 framed_by true size bytes = refl
 framed_by false size bytes = refl
 
@@ -38,28 +42,34 @@ by_gate : (gate : ℕ) (bytes payload next : List ℕ) (open_gate : Bool) → na
     → (5 + length payload + length next ≤ suc (length bytes)) × (0 < length next)
 by_gate gate bytes payload next true is h =
     let size = from_le_bytes w32 (take 4 bytes) in
-    let long = payload_length size (drop 4 bytes) payload next (nat_lt size (length (drop 4 bytes))) refl (sym (framed_by (nat_lt size (length (drop 4 bytes))) size (drop 4 bytes)) ∙ h) in
+    let long = payload_length size (drop 4 bytes) payload next (nat_lt size (length (drop 4 bytes))) refl
+    (sym (framed_by (nat_lt size (length (drop 4 bytes))) size (drop 4 bytes)) ∙ h) in
     (omega (arith, long.0, long.1, length-drop 4 bytes), long.1)
 by_gate gate bytes payload next false is h = absurd cc
 
-pub frame_length : (bytes payload next : List ℕ) → frame_of bytes ≡ Some (payload, next) → (5 + length payload + length next ≤ length bytes) × (0 < length next)
+pub frame_length : (bytes payload next : List ℕ) → frame_of bytes ≡ Some (payload, next)
+    → (5 + length payload + length next ≤ length bytes) × (0 < length next)
 frame_length [] payload next h = absurd cc
 frame_length (gate ∷ bytes) payload next h = by_gate gate bytes payload next (nat_eq gate 1) refl h
 
 -- frames, and one more
-pub leads_more : (bytes : List ℕ) (payloads : List (List ℕ)) (rest payload next : List ℕ) → Leads bytes payloads rest → frame_of rest ≡ Some (payload, next)
+pub leads_more : (bytes : List ℕ) (payloads : List (List ℕ)) (rest payload next : List ℕ) → Leads bytes payloads rest
+    → frame_of rest ≡ Some (payload, next)
     → Leads bytes (payloads ++ payload ∷ []) next
 leads_more bytes [] rest payload next leads frame = (next, subst (λ b. frame_of b ≡ Some (payload, next)) leads frame, refl)
-leads_more bytes (p ∷ payloads) rest payload next leads frame = (leads.0, leads.1, leads_more leads.0 payloads rest payload next leads.2 frame)
+leads_more bytes (p ∷ payloads) rest payload next leads frame =
+    (leads.0, leads.1, leads_more leads.0 payloads rest payload next leads.2 frame)
 
 map-push : {A B : Type 0} (f : A → B) (xs : List A) (x : A) → map f (xs ++ x ∷ []) ≡ map f xs ++ f x ∷ []
 map-push f [] x = refl
 map-push f (y ∷ xs) x = ap (λ t. f y ∷ t) (map-push f xs x)
 
-pub records_more : (payloads : List (List ℕ)) (records : List Record) (payload : List ℕ) (r : Record) → AreRecords payloads records → reading payload ≡ Ok r
+pub records_more : (payloads : List (List ℕ)) (records : List Record) (payload : List ℕ) (r : Record) → AreRecords payloads records
+    → reading payload ≡ Ok r
     → AreRecords (payloads ++ payload ∷ []) (records ++ r ∷ [])
 records_more payloads records payload r are is =
-    map-push reading payloads payload ∙ ap (λ t. t ++ reading payload ∷ []) are ∙ ap (λ t. map Ok records ++ t ∷ []) is ∙ sym (map-push Ok records r)
+    map-push reading payloads payload ∙ ap (λ t. t ++ reading payload ∷ []) are ∙ ap (λ t. map Ok records ++ t ∷ []) is
+    ∙ sym (map-push Ok records r)
 
 err_is : {why other : RecordFault} → let r : Result Record RecordFault = Err why in r ≡ Err other → why ≡ other
 err_is h = cc
@@ -70,7 +80,8 @@ told_within n (read r rest) why h = absurd cc
 told_within n (bad from) why h = subst (λ w. fault_place w ≤ n) (err_is h) (omega arith)
 told_within n short why h = subst (λ w. fault_place w ≤ n) (err_is h) (omega arith)
 
-by_kind : (known : Bool) (n : ℕ) (r : Reading Record) (why : RecordFault) → (if known then told n r else Err fault.BadKind) ≡ Err why → fault_place why ≤ n
+by_kind : (known : Bool) (n : ℕ) (r : Reading Record) (why : RecordFault) → (if known then told n r else Err fault.BadKind) ≡ Err why
+    → fault_place why ≤ n
 by_kind true n r why h = told_within n r why h
 by_kind false n r why h = subst (λ w. fault_place w ≤ n) (err_is h) (omega arith)
 
@@ -87,9 +98,17 @@ pub record Scanned (file rest : List ℕ) (records : List Record) : Type 0 where
   pub within : length rest + 16 ≤ length file
 
 pub begun : (file : List ℕ) → 16 < length file → Scanned file (drop 16 file) []
-begun file long = record { payloads = []; frames = refl; read = refl; some = omega (arith, length-drop 16 file); within = omega (arith, length-drop 16 file) }
+begun file long = record {
+  payloads = [];
+  frames = refl;
+  read = refl;
+  some = omega (arith, length-drop 16 file);
+  within =
+      omega (arith, length-drop 16 file);
+}
 
-pub gone_on : (file rest payload next : List ℕ) (records : List Record) (r : Record) → Scanned file rest records → frame_of rest ≡ Some (payload, next) → reading payload ≡ Ok r
+pub gone_on : (file rest payload next : List ℕ) (records : List Record) (r : Record) → Scanned file rest records
+    → frame_of rest ≡ Some (payload, next) → reading payload ≡ Ok r
     → Scanned file next (records ++ r ∷ [])
 gone_on file rest payload next records r so_far frame is =
     let long = frame_length rest payload next frame in
@@ -108,5 +127,6 @@ two_tests false ends h = refl
 
 pub long_enough : (file : List ℕ) → is_fresh file ≡ false → 16 < length file
 long_enough file h =
-    let short : nat_lt (length file) 17 ≡ false = two_tests (nat_lt (length file) 17) (nat_eq (length file) 17 && not (nat_eq (slice_index file 0) 1)) h in
+    let short : nat_lt (length file) 17 ≡ false =
+    two_tests (nat_lt (length file) 17) (nat_eq (length file) 17 && not (nat_eq (slice_index file 0) 1)) h in
     omega (arith, ltb-false (length file) 17 short)

@@ -1,5 +1,6 @@
 -- What the changes that make a journal leave of its file, also where they are torn.
-use Rattle.std.proofs.Common.{◌≤◌, ◌<◌, ◌≡◌, inl, inr, ⊎_elim, ℕ, Bool, true, not, ◌&&◌, ◌||◌, nat_eq, nat_lt, slice_index, List, [], ◌∷◌, ◌++◌, length, take, drop, refl, sym, ◌∙◌, ap, subst, arith, length-append}
+use Rattle.std.proofs.Common.{◌≤◌, ◌<◌, ◌≡◌, inl, inr, ⊎_elim, ℕ, Bool, true, not, ◌&&◌, ◌||◌, nat_eq, nat_lt, slice_index, List, [], ◌∷◌}
+use Rattle.std.proofs.Common.{◌++◌, length, take, drop, refl, sym, ◌∙◌, ap, subst, arith, length-append}
 use Rattle.std.proofs.lemmas.List.{append-nil, length-take, take_all}
 use Rattle.std.proofs.lemmas.Bool.{cases_eq, cases_lt, lt-ltb, le-ltb, eqb-true, ne_eqb, and_parts}
 use Rattle.ba_ports.specs.Disk.{Torn, CutShort}
@@ -13,7 +14,8 @@ one_byte (byte ∷ b ∷ range) is = absurd (omega arith)
 
 -- a file of up to 16 bytes
 short_is_fresh : (file : List ℕ) → length file < 17 → is_fresh file ≡ true
-short_is_fresh file short = ap (λ (b : Bool). b || (nat_eq (length file) 17 && not (nat_eq (slice_index file 0) 1))) (lt-ltb (length file) 17 short)
+short_is_fresh file short = ap (λ (b : Bool). b || (nat_eq (length file) 17 && not (nat_eq (slice_index file 0) 1)))
+    (lt-ltb (length file) 17 short)
 
 fresh_is_short : (file : List ℕ) → is_fresh file ≡ true → 17 ≤ length file → length file ≡ 17
 fresh_is_short file fresh long =
@@ -65,6 +67,12 @@ by_first first = ⊎_elim
 -- and the first byte, when all others stand
 pub first_set : (c : List ℕ) → Torn 0 1 (0 ∷ behind_first) c → StandsFor c []
 first_set c torn =
-    let first = one_byte torn.range (omega (arith, torn.no_shorter, torn.no_longer, ap length torn.bytes, length-append torn.range behind_first)) in
+    let first = one_byte torn.range (omega (
+      arith,
+      torn.no_shorter,
+      torn.no_longer,
+      ap length torn.bytes,
+      length-append torn.range behind_first,
+    )) in
     let whole : c ≡ first.0 ∷ behind_first = torn.bytes ∙ ap (λ (l : List ℕ). l ++ behind_first) first.1 in
     subst (λ (f : List ℕ). StandsFor f []) (sym whole) (by_first first.0)

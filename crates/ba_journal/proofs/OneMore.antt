@@ -1,5 +1,6 @@
 -- One more frame at the end of a journal's file.
-use Rattle.std.proofs.Common.{◌≡◌, ◌≢◌, ℕ, ◌+◌, ◌-◌, ◌<◌, inr, Bool, true, false, ◌&&◌, ◌||◌, nat_eq, nat_lt, if◌then◌else◌, List, [], ◌∷◌, ◌++◌, length, take, drop, None, Some, refl, sym, ap, ◌∙◌, subst, arith, append_assoc, length-append}
+use Rattle.std.proofs.Common.{◌≡◌, ◌≢◌, ℕ, ◌+◌, ◌-◌, ◌<◌, inr, Bool, true, false, ◌&&◌, ◌||◌, nat_eq, nat_lt, if◌then◌else◌, List, [], ◌∷◌}
+use Rattle.std.proofs.Common.{◌++◌, length, take, drop, None, Some, refl, sym, ap, ◌∙◌, subst, arith, append_assoc, length-append}
 use Rattle.std.specs.Int.{w32, from_le_bytes, to_le_bytes}
 use Rattle.std.proofs.lemmas.List.{take_at, drop_at, take-append-drop, length-take, length-drop}
 use Rattle.std.proofs.lemmas.Nat.{from_le_bytes-to_le_bytes_4}
@@ -17,7 +18,8 @@ use Rattle.ba_journal.proofs.Leading.{some_is, framed, framed_by, leads_more, re
 less_is : (size : ℕ) (bytes : List ℕ) → size < length bytes → nat_lt size (length bytes) ≡ true
 less_is size bytes less = grind (arith, nat_tests)
 
-payload_is : (size : ℕ) (payload next : List ℕ) → size ≡ length payload → 0 < length next → payload_of size (payload ++ next) ≡ Some (payload, next)
+payload_is : (size : ℕ) (payload next : List ℕ) → size ≡ length payload → 0 < length next
+    → payload_of size (payload ++ next) ≡ Some (payload, next)
 payload_is size payload next is some =
     let less : size < length (payload ++ next) = omega (arith, length-append payload next, is, some) in
     framed_by (nat_lt size (length (payload ++ next))) size (payload ++ next)
@@ -50,10 +52,12 @@ by_size bytes payload next true fits h =
     let less : size < length rest = ltb-true size (length rest) fits in
     let four : length digits ≡ 4 = omega (arith, length-take 4 bytes, length-drop 4 bytes, less) in
     let long : size ≡ length payload = omega (arith, length-take size rest, ap length first, less) in
-    let parts : rest ≡ payload ++ next = sym (take-append-drop size rest) ∙ ap (λ (p : List ℕ). p ++ drop size rest) first ∙ ap (λ (n : List ℕ). payload ++ n) second in
+    let parts : rest ≡ payload ++ next = sym (take-append-drop size rest) ∙ ap (λ (p : List ℕ). p ++ drop size rest) first
+    ∙ ap (λ (n : List ℕ). payload ++ n) second in
     record {
       own = 1 ∷ (digits ++ payload);
-      is = ap (λ (b : List ℕ). 1 ∷ b) (sym (take-append-drop 4 bytes) ∙ ap (λ (r : List ℕ). digits ++ r) parts ∙ sym (append_assoc digits payload next));
+      is = ap (λ (b : List ℕ). 1 ∷ b) (sym (take-append-drop 4 bytes) ∙ ap (λ (r : List ℕ). digits ++ r) parts
+          ∙ sym (append_assoc digits payload next));
       other = λ o some. ap (λ (b : List ℕ). frame_of (1 ∷ b)) (append_assoc digits payload o) ∙ frame_made digits payload o four long some;
     }
 by_size bytes payload next false fits h = absurd cc
@@ -64,7 +68,8 @@ by_gate : (gate : ℕ) (bytes payload next : List ℕ) (open_gate : Bool) → na
 by_gate gate bytes payload next true is h =
     let size = from_le_bytes w32 (take 4 bytes) in
     let fits = nat_lt size (length (drop 4 bytes)) in
-    subst (λ (g : ℕ). Front (g ∷ bytes) payload next) (sym (eqb-true gate 1 is)) (by_size bytes payload next fits refl (sym (framed_by fits size (drop 4 bytes)) ∙ h))
+    subst (λ (g : ℕ). Front (g ∷ bytes) payload next) (sym (eqb-true gate 1 is))
+    (by_size bytes payload next fits refl (sym (framed_by fits size (drop 4 bytes)) ∙ h))
 by_gate gate bytes payload next false is h = absurd cc
 
 front_of : (bytes payload next : List ℕ) → frame_of bytes ≡ Some (payload, next) → Front bytes payload next
@@ -100,7 +105,8 @@ not_short file long = grind (arith, nat_tests)
 pub made_with : (own o : List ℕ) → 0 < length o → is_fresh (header ++ (own ++ o)) ≡ false
 made_with own o some =
     let long : 16 < length (header ++ (own ++ o)) = omega (arith, length-append header (own ++ o), length-append own o, some) in
-    ap (λ (b : Bool). b || (nat_eq (length (header ++ (own ++ o))) 17 && false)) (not_short (header ++ (own ++ o)) long) ∙ no_second (nat_eq (length (header ++ (own ++ o))) 17)
+    ap (λ (b : Bool). b || (nat_eq (length (header ++ (own ++ o))) 17 && false)) (not_short (header ++ (own ++ o)) long)
+    ∙ no_second (nat_eq (length (header ++ (own ++ o))) 17)
 
 closed_gate : (gate : ℕ) (behind : List ℕ) → gate ≢ 1 → frame_of (gate ∷ behind) ≡ None
 closed_gate gate behind shut = by_test (nat_eq gate 1) refl
@@ -134,7 +140,8 @@ module _ (file : List ℕ) (records : List Record) (seat : Seat file records) wh
   pub ahead_is : before_last file ≡ header ++ seat.own
   ahead_is =
       let long : length file ≡ length (header ++ seat.own) + 1 = omega (arith, ap length seat.is, length-append seat.own (0 ∷ [])) in
-      ap before_last seat.is ∙ take_at (header ++ seat.own) (0 ∷ []) (length (header ++ (seat.own ++ 0 ∷ [])) - 1) (omega (arith, length-append seat.own (0 ∷ [])))
+      ap before_last seat.is ∙ take_at (header ++ seat.own) (0 ∷ []) (length (header ++ (seat.own ++ 0 ∷ [])) - 1)
+      (omega (arith, length-append seat.own (0 ∷ [])))
 
   pub holds_with : (o : List ℕ) → 0 < length o → frame_of o ≡ None → Holds (before_last file ++ o) records o
   holds_with o some none = subst (λ (front : List ℕ). Holds (front ++ o) records o) (sym ahead_is) record {
@@ -154,14 +161,17 @@ module _ (file : List ℕ) (records : List Record) (seat : Seat file records) wh
 
   pub behind_it : (behind : List ℕ) → StandsFor (file ++ behind) records
   behind_it behind =
-      let parts : file ++ behind ≡ before_last file ++ 0 ∷ behind = ap (λ (f : List ℕ). f ++ behind) closed_again ∙ append_assoc (before_last file) (0 ∷ []) behind in
+      let parts : file ++ behind ≡ before_last file ++ 0 ∷ behind =
+      ap (λ (f : List ℕ). f ++ behind) closed_again ∙ append_assoc (before_last file) (0 ∷ []) behind in
       subst (λ (f : List ℕ). StandsFor f records) (sym parts) (another 0 behind (omega arith))
 
   pub one_more : (last : Record) → InRange last → AtRest (before_last file ++ 1 ∷ behind_gate (coding last)) (records ++ last ∷ [])
   one_more last in_range =
       let payload = coding last in
       let o = 1 ∷ behind_gate payload in
-      let frame : frame_of o ≡ Some (payload, 0 ∷ []) = frame_made (to_le_bytes w32 (length payload)) payload (0 ∷ []) refl (from_le_bytes-to_le_bytes_4 (length payload) (is_short last in_range)) (omega arith) in
+      let frame : frame_of o ≡ Some (payload, 0 ∷ []) =
+      frame_made (to_le_bytes w32 (length payload)) payload (0 ∷ []) refl
+      (from_le_bytes-to_le_bytes_4 (length payload) (is_short last in_range)) (omega arith) in
       subst (λ (front : List ℕ). AtRest (front ++ o) (records ++ last ∷ [])) (sym ahead_is) record {
         made = made_with seat.own o (omega arith);
         headed = refl;

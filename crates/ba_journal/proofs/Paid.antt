@@ -17,7 +17,8 @@ some_bytes [] r is = absurd (cc)
 some_bytes (byte ∷ bytes) r is = omega arith
 
 -- one more frame
-pub paid_on : (records : List Record) (gate next : ℕ) (shown : List ℕ) (r : Record) → ArePaid records gate → IsBytes shown → reading shown ≡ Ok r
+pub paid_on : (records : List Record) (gate next : ℕ) (shown : List ℕ) (r : Record) → ArePaid records gate → IsBytes shown
+    → reading shown ≡ Ok r
     → next ≡ gate + (5 + length shown) → ArePaid (records ++ r ∷ []) next
 paid_on records gate next shown r paid are is there = (
   all_and records r paid.0 (is_coding shown r are is).0,

@@ -1,12 +1,14 @@
 -- What a load finds in a file is what `reading_of` computes, for the clauses of `a_reading_is_computed`.
-use Rattle.std.proofs.Common.{◌≡◌, ◌≢◌, ◌⊎◌, inl, inr, ◌-◌, ◌<◌, ◌≤◌, ℕ, suc, zero, Bool, false, if◌then◌else◌, nat_eq, List, [], ◌∷◌, length, map, drop, Option, None, Result, Ok, refl, sym, ◌∙◌, ap, subst, arith}
+use Rattle.std.proofs.Common.{◌≡◌, ◌≢◌, ◌⊎◌, inl, inr, ◌-◌, ◌<◌, ◌≤◌, ℕ, suc, zero, Bool, false, if◌then◌else◌, nat_eq, List, [], ◌∷◌}
+use Rattle.std.proofs.Common.{length, map, drop, Option, None, Result, Ok, refl, sym, ◌∙◌, ap, subst, arith}
 use Rattle.std.proofs.lemmas.Bool.Decides.{nat_tests}
 use Rattle.std.proofs.lemmas.List.{length-drop}
 use Rattle.ba_record.specs.Reading.{reading}
 use Rattle.ba_record.specs.declared.records.Record.{Record}
 use Rattle.ba_record.specs.declared.records.RecordFault.{RecordFault}
 use Rattle.ba_journal.specs.Frames.{is_fresh, frame_of, Leads, AreRecords, IsNoJournal, StandsFor}
-use Rattle.ba_journal.specs.Readings.{ReadsAs, IsTail, with_frame, frames_from, if_record, records_from, tail_from, found_in, reading_of, records_found}
+use Rattle.ba_journal.specs.Readings.{ReadsAs, IsTail, with_frame, frames_from, if_record, records_from, tail_from, found_in, reading_of}
+use Rattle.ba_journal.specs.Readings.{records_found}
 use Rattle.ba_journal.specs.declared.readings.Reading.{Reading}
 use Rattle.ba_journal.specs.declared.readings.Reading.TheVariants.{Fresh, Found}
 use Rattle.ba_journal.specs.declared.readings.Tail.{Tail}
@@ -92,13 +94,15 @@ computed file (Found records gate tail) (rest, holds, place, is) =
     ∙ ap (λ (t : Tail). Found records gate t) (tail_read tail rest is)
 
 -- a file that stands for records is read as something
-stands_as : (file : List ℕ) (records : List Record) → StandsFor file records → (found : Reading) × ReadsAs file found × (records_found found ≡ records)
+stands_as : (file : List ℕ) (records : List Record) → StandsFor file records
+    → (found : Reading) × ReadsAs file found × (records_found found ≡ records)
 stands_as file records (inl (fresh, none)) = (Fresh, fresh, sym none)
 stands_as file records (inr (rest, holds)) =
     let t = some_tail rest (has_gate file records rest holds) in
     (Found records (length file - length rest) t.0, (rest, holds, refl, t.1), refl)
 
-pub stands_computed : (file : List ℕ) (records : List Record) → StandsFor file records → ReadsAs file (reading_of file) × (records_found (reading_of file) ≡ records)
+pub stands_computed : (file : List ℕ) (records : List Record) → StandsFor file records
+    → ReadsAs file (reading_of file) × (records_found (reading_of file) ≡ records)
 stands_computed file records stands =
     let read = stands_as file records stands in
     let same = sym (computed file read.0 read.1) in
@@ -111,6 +115,7 @@ stands_found file (Found records gate tail) (rest, holds, place, is) = inr (rest
 pub each_computed : (file : List ℕ) → ReadsAs file (reading_of file) ⊎ ((place : ℕ) × IsNoJournal file place)
 each_computed file = by_read (each_read file)
   where
-    by_read : ((r : List Record) × StandsFor file r) ⊎ ((place : ℕ) × IsNoJournal file place) → ReadsAs file (reading_of file) ⊎ ((place : ℕ) × IsNoJournal file place)
+    by_read : ((r : List Record) × StandsFor file r) ⊎ ((place : ℕ) × IsNoJournal file place)
+        → ReadsAs file (reading_of file) ⊎ ((place : ℕ) × IsNoJournal file place)
     by_read (inl stands) = inl (stands_computed file stands.0 stands.1).0
     by_read (inr refused) = inr refused

@@ -8,7 +8,8 @@ use Rattle.ba_message.specs.Endpoints.{Fits, endpoint_length}
 use Rattle.ba_record.proofs.Parts.{size_is, base_is_short}
 use Rattle.ba_record.specs.Coding.{coding, InRange, IsUpward, endpoint_coding, option_coding, upward_coding}
 use Rattle.ba_record.specs.declared.records.Record.{Record}
-use Rattle.ba_record.specs.declared.records.Record.TheVariants.{Node, Scope, End, Part, Enrolled, Refused, Received, Acted, Decided, Chosen, Ticked, Asked}
+use Rattle.ba_record.specs.declared.records.Record.TheVariants.{Node, Scope, End, Part, Enrolled, Refused, Received, Acted, Decided, Chosen}
+use Rattle.ba_record.specs.declared.records.Record.TheVariants.{Ticked, Asked}
 
 endpoint_is_short : (e : Epr) → Fits e → length (endpoint_coding e) ≤ 4096
 endpoint_is_short e fits =
@@ -26,7 +27,12 @@ upward_is_short (Some upward) is = omega (arith, endpoint_is_short upward.1 is)
 pub is_short : (r : Record) → InRange r → length (coding r) < 2 ^ 32
 is_short (Node number base) is = omega (arith, base_is_short base is.1)
 is_short (Scope counter kind deadline upward) is =
-    omega (arith, length-append (option_coding (to_le_bytes w64) deadline) (option_coding upward_coding upward), deadline_is_short deadline, upward_is_short upward is.1.1)
+    omega (
+      arith,
+      length-append (option_coding (to_le_bytes w64) deadline) (option_coding upward_coding upward),
+      deadline_is_short deadline,
+      upward_is_short upward is.1.1,
+    )
 is_short (End counter scope protocol participant) is = omega (arith, endpoint_is_short participant is.1.1)
 is_short (Part counter protocol registration) is = omega (arith, endpoint_is_short registration is.1)
 is_short (Enrolled counter coordinator) is = omega (arith, endpoint_is_short coordinator is.1)

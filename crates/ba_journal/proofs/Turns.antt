@@ -1,5 +1,6 @@
 -- How runs of a disk's calls are joined.
-use Rattle.std.proofs.Common.{◌≡◌, inl, inr, ⊎_elim, ℕ, Bool, true, false, List, [], ◌∷◌, ◌++◌, Result, Ok, Err, OnOk, is_err, refl, ◌∙◌, sym, ap, subst}
+use Rattle.std.proofs.Common.{◌≡◌, inl, inr, ⊎_elim, ℕ, Bool, true, false, List, [], ◌∷◌, ◌++◌, Result, Ok, Err, OnOk, is_err, refl, ◌∙◌}
+use Rattle.std.proofs.Common.{sym, ap, subst}
 use Rattle.ba_ports.specs.Disk.{InTurn, LeavesOnly, Only, is_counted, if_counted, counted}
 use Rattle.ba_ports.specs.declared.requests.Call.{Call}
 use Rattle.ba_ports.specs.declared.requests.Request.{Request}
@@ -34,7 +35,8 @@ AreCounted [] = Unit {0}
 AreCounted (request ∷ requests) = (is_counted request ≡ true) × AreCounted requests
 
 -- counted requests made in turn are counted calls
-pub all_counted : (requests : List Request) (failed : Bool) (calls : List Call) → AreCounted requests → InTurn requests failed calls → counted calls ≡ calls
+pub all_counted : (requests : List Request) (failed : Bool) (calls : List Call) → AreCounted requests → InTurn requests failed calls
+    → counted calls ≡ calls
 all_counted [] failed calls kinds made = ap counted made.1 ∙ sym made.1
 all_counted (request ∷ requests) failed calls kinds (inl stopped) =
     ap counted stopped.1 ∙ ap (λ (kind : Bool). if_counted kind (record { request = request; failed = true }) []) kinds.0 ∙ sym stopped.1
@@ -54,7 +56,8 @@ on_ok_both (Err why) p q both = tt
 
 module _ {D : Type 0} (later : D → D → Type 0) (left_between : D → D → List ℕ → Type 0) where
   -- what a crash leaves also has R
-  pub widened : (old new : D) (P R : List ℕ → Type 0) → LeavesOnly later left_between old new P → ((c : List ℕ) → P c → R c) → LeavesOnly later left_between old new R
+  pub widened : (old new : D) (P R : List ℕ → Type 0) → LeavesOnly later left_between old new P → ((c : List ℕ) → P c → R c)
+      → LeavesOnly later left_between old new R
   widened old new P R run has = record {
     goes_on = run.goes_on;
     each = λ c left. has c (run.each c left);
@@ -63,11 +66,13 @@ module _ {D : Type 0} (later : D → D → Type 0) (left_between : D → D → L
 
   -- one run, and then another
   pub joined : (old mid new : D) (P R : List ℕ → Type 0) → ((a b c : D) → later a b → later b c → later a c)
-      → LeavesOnly later left_between old mid R → LeavesOnly later left_between mid new P → ((c : List ℕ) → P c → R c) → LeavesOnly later left_between old new R
+      → LeavesOnly later left_between old mid R → LeavesOnly later left_between mid new P → ((c : List ℕ) → P c → R c)
+      → LeavesOnly later left_between old new R
   joined old mid new P R join first second has = record {
     goes_on = join old mid new first.goes_on second.goes_on;
     each = λ c left. ⊎_elim (first.each c) (has c) (second.before old c first.goes_on left);
-    before = λ a c earlier left. ⊎_elim (first.before a c earlier) (λ now. inr (has c now)) (second.before a c (join a old mid earlier first.goes_on) left);
+    before = λ a c earlier left. ⊎_elim (first.before a c earlier) (λ now. inr (has c now))
+        (second.before a c (join a old mid earlier first.goes_on) left);
   }
 
   -- a change under way, where a crash left this file until then

@@ -1,5 +1,6 @@
 -- Believe: the file of a journal, version 1: a header of 16 bytes, frames one after another, and a last gate.
-use Rattle.std.specs.Prelude.{◌≡◌, ℕ, ◌-◌, ◌+◌, ◌<◌, ◌≢◌, ◌⊎◌, Bool, true, false, not, ◌&&◌, ◌||◌, if◌then◌else◌, nat_eq, nat_lt, List, [], ◌∷◌, ◌++◌, length, take, drop, slice_index, map, Option, None, Some, Ok, Err, codes}
+use Rattle.std.specs.Prelude.{◌≡◌, ℕ, ◌-◌, ◌+◌, ◌<◌, ◌≢◌, ◌⊎◌, Bool, true, false, not, ◌&&◌, ◌||◌, if◌then◌else◌, nat_eq, nat_lt, List, []}
+use Rattle.std.specs.Prelude.{◌∷◌, ◌++◌, length, take, drop, slice_index, map, Option, None, Some, Ok, Err, codes}
 use Rattle.std.specs.Int.{w32, from_le_bytes}
 use Rattle.ba_record.specs.Reading.{reading}
 use Rattle.ba_record.specs.declared.records.Record.{Record}

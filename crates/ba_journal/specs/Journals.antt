@@ -56,7 +56,8 @@ StandsWithOrWithout records last file = StandsFor file records ⊎ StandsFor fil
 
 -- The disk holds a journal of these records whose last gate, at this place, is 0 and the last byte, and a crash
 -- leaves the file as it is read.
-pub record IsSettled {D : Type 0} (seen : D → List ℕ) (may_leave : D → List ℕ → Type 0) (disk : D) (gate : ℕ) (records : List Record) : Type 0 where
+pub record IsSettled {D : Type 0} (seen : D → List ℕ) (may_leave : D → List ℕ
+    → Type 0) (disk : D) (gate : ℕ) (records : List Record) : Type 0 where
   pub at_rest : AtRest (seen disk) records
   pub place : gate + 1 ≡ length (seen disk)
   pub durable : Only (seen disk) (may_leave disk)

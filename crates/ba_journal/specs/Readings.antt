@@ -1,5 +1,6 @@
 -- Believe: what a load finds in a journal's file, and that this is a function of its bytes.
-use Rattle.std.specs.Prelude.{◌≡◌, ◌≢◌, ℕ, suc, zero, ◌+◌, ◌-◌, ◌*◌, ◌<◌, ◌≤◌, ◌^◌, true, if◌then◌else◌, nat_eq, List, [], ◌∷◌, length, drop, Option, None, Some, Result, Ok, Err}
+use Rattle.std.specs.Prelude.{◌≡◌, ◌≢◌, ℕ, suc, zero, ◌+◌, ◌-◌, ◌*◌, ◌<◌, ◌≤◌, ◌^◌, true, if◌then◌else◌, nat_eq, List, [], ◌∷◌, length}
+use Rattle.std.specs.Prelude.{drop, Option, None, Some, Result, Ok, Err}
 use Rattle.std.specs.List.{AllByRecursion}
 use Rattle.ba_record.specs.Coding.{InRange}
 use Rattle.ba_record.specs.Reading.{reading}

@@ -1,6 +1,7 @@
 -- What fits a link is kept, and no notice arrives out of place: the rules at any state and any move, from what
 -- was computed at each.
-use Rattle.std.proofs.Common.{◌≡◌, ◌≢◌, ℕ, ◌+◌, Bool, true, false, ◌&&◌, List, [], ◌++◌, Option, None, Some, IfSome, IsTrue, Contains, refl, if◌then◌else◌, option_to_list}
+use Rattle.std.proofs.Common.{◌≡◌, ◌≢◌, ℕ, ◌+◌, Bool, true, false, ◌&&◌, List, [], ◌++◌, Option, None, Some, IfSome, IsTrue, Contains, refl}
+use Rattle.std.proofs.Common.{if◌then◌else◌, option_to_list}
 use Rattle.std.specs.List.{AllByRecursion, list_all}
 use Rattle.std.proofs.lemmas.Bool.{and_parts, and_from}
 use Rattle.std.proofs.lemmas.List.Elements.{All-from_recursion, recursion_from_All, All-contains, All-weaker, All-append}
@@ -17,10 +18,12 @@ use Rattle.ba_core.specs.declared.rows.PRow.TheVariants as prow
 use Rattle.ba_core.specs.declared.states.PState.{PState}
 use Rattle.ba_core.specs.declared.states.PState.TheVariants as part
 use Rattle.ba_link.specs.Fits.{message_fits, MessageFits, LinkFits, HasPartRow, HasEndRow}
-use Rattle.ba_link.specs.Link.{End, LinkState, Link, LinkStep, Message, register, registered, refused_for_good, refused_for_now, to_part, to_end, heard_by, moved_link}
+use Rattle.ba_link.specs.Link.{End, LinkState, Link, LinkStep, Message, register, registered, refused_for_good, refused_for_now, to_part}
+use Rattle.ba_link.specs.Link.{to_end, heard_by, moved_link}
 use Rattle.ba_link.specs.Pairs.{is_possible_pair, verdict_fits}
 use Rattle.ba_link.proofs.Everywhere.{where_asked, at_place, passes}
-use Rattle.ba_link.proofs.Table.{messages, still_fits, fits_if_any, outcome_fits, keeps, each_move_keeps, is_part_row, is_end_row, has_end_row, part_takes, part_takes_each, end_takes, end_takes_each}
+use Rattle.ba_link.proofs.Table.{messages, still_fits, fits_if_any, outcome_fits, keeps, each_move_keeps, is_part_row, is_end_row}
+use Rattle.ba_link.proofs.Table.{has_end_row, part_takes, part_takes_each, end_takes, end_takes_each}
 
 -- a message that was sent fits
 pub sent_fits : (link : Link) (m : Message) → LinkFits link → Contains link.sent m → MessageFits link.state m

@@ -17,7 +17,8 @@ use Rattle.ba_core.specs.declared.rows.PRow.TheVariants as prow
 use Rattle.ba_core.specs.declared.states.PState.{PState}
 use Rattle.ba_core.specs.declared.states.PState.TheVariants as part
 use Rattle.ba_link.specs.Fits.{message_fits}
-use Rattle.ba_link.specs.Link.{End, LinkState, Message, register, registered, refused_for_good, refused_for_now, to_part, to_end, Move, part_receives, end_receives, chooses, acts, heard_by, Moved, moved_link}
+use Rattle.ba_link.specs.Link.{End, LinkState, Message, register, registered, refused_for_good, refused_for_now, to_part, to_end, Move}
+use Rattle.ba_link.specs.Link.{part_receives, end_receives, chooses, acts, heard_by, Moved, moved_link}
 use Rattle.ba_link.specs.Pairs.{is_possible_pair, verdict_fits}
 use Rattle.ba_link.proofs.Everywhere.{only_if, everywhere}
 

@@ -60,12 +60,14 @@ message_fits l (to_part notice.GetStatus) = true
 message_fits l (to_part (notice.Status name)) = true
 message_fits l (to_part n) = false
 message_fits l (to_end notice.Completed) =
-    part_among (part.Completed ∷ part.Closing ∷ part.Compensating ∷ part.FailingCompensating ∷ part.Ended Closed ∷ part.Ended Compensated ∷ part.Ended Failed ∷ []) l.part
+    part_among (part.Completed ∷ part.Closing ∷ part.Compensating ∷ part.FailingCompensating ∷ part.Ended Closed ∷ part.Ended Compensated
+    ∷ part.Ended Failed ∷ []) l.part
 message_fits l (to_end notice.Closed) = part_among (part.Ended Closed ∷ []) l.part
 message_fits l (to_end notice.Canceled) = part_among (part.Ended Canceled ∷ []) l.part
 message_fits l (to_end notice.Compensated) = part_among (part.Ended Compensated ∷ []) l.part
 message_fits l (to_end notice.Fail) =
-    part_among (part.FailingActive ∷ part.FailingCompleting ∷ part.FailingCanceling ∷ part.FailingCompensating ∷ part.Ended Failed ∷ []) l.part
+    part_among (part.FailingActive ∷ part.FailingCompleting ∷ part.FailingCanceling ∷ part.FailingCompensating
+    ∷ part.Ended Failed ∷ []) l.part
 message_fits l (to_end notice.Exit) = part_among (part.Exiting ∷ part.Ended Exited ∷ []) l.part
 message_fits l (to_end notice.CannotComplete) = part_among (part.NotCompleting ∷ part.Ended NotCompleted ∷ []) l.part
 message_fits l (to_end notice.GetStatus) = true

@@ -47,7 +47,8 @@ pub record Link : Type 0 where
 
 -- a link that begins: its participant is Registering, and has no end yet at a scope that may be sealed
 abbrev pub registering_link : Protocol → Bool → List Message → Link
-registering_link protocol sealed sent = record { state = record { protocol = protocol; end = None; part = part.Registering; sealed = sealed }; sent = sent }
+registering_link protocol sealed sent = record
+    { state = record { protocol = protocol; end = None; part = part.Registering; sealed = sealed }; sent = sent }
 
 -- a link that begins with both sides Active, no verdict and nothing sent
 abbrev pub active_link : Protocol → Bool → Link

@@ -9,7 +9,8 @@ use Rattle.ba_core.specs.declared.notices.Notice.{Notice}
 use Rattle.ba_core.specs.declared.notices.Notice.TheVariants as notice
 use Rattle.ba_core.specs.declared.states.How.TheVariants.{Failed, Exited, NotCompleted}
 use Rattle.ba_core.specs.declared.states.CState.{CState}
-use Rattle.ba_core.specs.declared.states.CState.TheVariants.{FailingActive, FailingCompleting, FailingCanceling, FailingCompensating, NotCompleting, Exiting, Ended}
+use Rattle.ba_core.specs.declared.states.CState.TheVariants.{FailingActive, FailingCompleting, FailingCanceling, FailingCompensating}
+use Rattle.ba_core.specs.declared.states.CState.TheVariants.{NotCompleting, Exiting, Ended}
 
 abbrev pub is_outcome : Notice → Bool
 is_outcome notice.Fail = true

@@ -8,7 +8,9 @@ use Rattle.ba_core.specs.declared.states.How.TheVariants.{Canceled, Closed, Comp
 use Rattle.ba_core.specs.declared.states.CState.{CState}
 use Rattle.ba_core.specs.declared.states.CState.TheVariants as end
 use Rattle.ba_core.specs.declared.states.PState.{PState}
-use Rattle.ba_core.specs.declared.states.PState.TheVariants.{Registering, Active, Completing, Canceling, Completed, Closing, Compensating, FailingActive, FailingCompleting, FailingCanceling, FailingCompensating, NotCompleting, Exiting, Ended}
+use Rattle.ba_core.specs.declared.states.PState.TheVariants.{Registering, Active, Completing, Canceling, Completed, Closing, Compensating}
+use Rattle.ba_core.specs.declared.states.PState.TheVariants.{FailingActive, FailingCompleting, FailingCanceling, FailingCompensating}
+use Rattle.ba_core.specs.declared.states.PState.TheVariants.{NotCompleting, Exiting, Ended}
 use Rattle.ba_link.specs.States.{part_among}
 use Rattle.ba_link.specs.Link.{End, LinkState}
 
@@ -16,10 +18,14 @@ use Rattle.ba_link.specs.Link.{End, LinkState}
 abbrev pub partners : Protocol → CState → List PState
 partners Pc end.Active = Registering ∷ Active ∷ FailingActive ∷ NotCompleting ∷ Exiting ∷ Completed ∷ []
 partners Cc end.Active = Registering ∷ Active ∷ FailingActive ∷ NotCompleting ∷ Exiting ∷ []
-partners Cc end.Completing = Registering ∷ Active ∷ Completing ∷ Completed ∷ FailingActive ∷ FailingCompleting ∷ NotCompleting ∷ Exiting ∷ []
-partners Pc end.Canceling = Registering ∷ Active ∷ Canceling ∷ Completed ∷ FailingActive ∷ FailingCanceling ∷ NotCompleting ∷ Exiting ∷ Ended Canceled ∷ []
-partners Cc end.CancelingActive = Registering ∷ Active ∷ Canceling ∷ FailingActive ∷ FailingCanceling ∷ NotCompleting ∷ Exiting ∷ Ended Canceled ∷ []
-partners Cc end.CancelingCompleting = Registering ∷ Active ∷ Canceling ∷ Completed ∷ FailingActive ∷ FailingCanceling ∷ NotCompleting ∷ Exiting ∷ Ended Canceled ∷ Completing ∷ FailingCompleting ∷ []
+partners Cc end.Completing = Registering ∷ Active ∷ Completing ∷ Completed ∷ FailingActive ∷ FailingCompleting
+    ∷ NotCompleting ∷ Exiting ∷ []
+partners Pc end.Canceling = Registering ∷ Active ∷ Canceling ∷ Completed ∷ FailingActive ∷ FailingCanceling ∷ NotCompleting ∷ Exiting
+    ∷ Ended Canceled ∷ []
+partners Cc end.CancelingActive = Registering ∷ Active ∷ Canceling ∷ FailingActive ∷ FailingCanceling ∷ NotCompleting ∷ Exiting
+    ∷ Ended Canceled ∷ []
+partners Cc end.CancelingCompleting = Registering ∷ Active ∷ Canceling ∷ Completed ∷ FailingActive ∷ FailingCanceling ∷ NotCompleting
+    ∷ Exiting ∷ Ended Canceled ∷ Completing ∷ FailingCompleting ∷ []
 partners protocol end.Completed = Completed ∷ []
 partners protocol end.Closing = Completed ∷ Closing ∷ Ended Closed ∷ []
 partners protocol end.Compensating = Completed ∷ Compensating ∷ FailingCompensating ∷ Ended Compensated ∷ []

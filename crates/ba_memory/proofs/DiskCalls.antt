@@ -1,12 +1,16 @@
 -- What each call of a MemDisk does, in the words of the disk model.
-use Rattle.std.proofs.Common.{◌≡◌, ◌≢◌, ◌⊎◌, inl, inr, ⊎_elim, ℕ, ◌+◌, ◌<◌, ◌≤◌, ◌^◌, min, Bool, true, false, List, [], ◌∷◌, ◌++◌, length, take, drop, Option, Some, None, Ok, Err, if◌then◌else◌, refl, sym, ◌∙◌, ap, subst, arith, append_assoc, length-append, Result, OnOk, is_err}
+use Rattle.std.proofs.Common.{◌≡◌, ◌≢◌, ◌⊎◌, inl, inr, ⊎_elim, ℕ, ◌+◌, ◌<◌, ◌≤◌, ◌^◌, min, Bool, true, false, List, [], ◌∷◌, ◌++◌, length}
+use Rattle.std.proofs.Common.{take, drop, Option, Some, None, Ok, Err, if◌then◌else◌, refl, sym, ◌∙◌, ap, subst, arith, append_assoc}
+use Rattle.std.proofs.Common.{length-append, Result, OnOk, is_err}
 use Rattle.std.proofs.lemmas.Bool.{cases_lt}
 use Rattle.std.proofs.lemmas.List.{take_all, take-append-le}
 use Rattle.ba_ports.specs.Causes.{HasCause}
 use Rattle.ba_ports.specs.Counts.{risen}
 use Rattle.ba_ports.specs.Disk.{written_at, Torn, CutShort, Done, NoMore, Only, Passes, is_counted}
-use Rattle.ba_memory.specs.DiskValue.{MediumValue, DiskValue, imaged, all_imaged, bytes_of, LeftOfOne, LeftOf, MayBeLeft, course, course_of, goes_wrong, issued, changed_by, synced_by, after, after_all, fails, Makes, IsLater, MayHaveBeenLeft}
-use Rattle.ba_memory.specs.inside.DiskLaws.{torn_none, cut_none, put_within, length_written, left_of_one, shown_may_stay, after_append, more_of}
+use Rattle.ba_memory.specs.DiskValue.{MediumValue, DiskValue, imaged, all_imaged, bytes_of, LeftOfOne, LeftOf, MayBeLeft, course, course_of}
+use Rattle.ba_memory.specs.DiskValue.{goes_wrong, issued, changed_by, synced_by, after, after_all, fails, Makes, IsLater, MayHaveBeenLeft}
+use Rattle.ba_memory.specs.inside.DiskLaws.{torn_none, cut_none, put_within, length_written, left_of_one, shown_may_stay, after_append}
+use Rattle.ba_memory.specs.inside.DiskLaws.{more_of}
 use Rattle.ba_memory.specs.declared.changes.Change.{Change}
 use Rattle.ba_memory.specs.declared.changes.Change.TheVariants as change
 use Rattle.ba_ports.specs.declared.failures.Failed.{Failed}

@@ -1,5 +1,6 @@
 -- A Medium keeps what a read gives and what a stop leaves.
-use Rattle.std.proofs.Common.{◌≡◌, ◌≤◌, ℕ, zero, suc, List, [], ◌∷◌, ◌++◌, length, take, drop, Option, Some, None, refl, sym, ◌∙◌, ap, arith, take-append-drop}
+use Rattle.std.proofs.Common.{◌≡◌, ◌≤◌, ℕ, zero, suc, List, [], ◌∷◌, ◌++◌, length, take, drop, Option, Some, None, refl, sym, ◌∙◌, ap}
+use Rattle.std.proofs.Common.{arith, take-append-drop}
 use Rattle.std.proofs.lemmas.List.{take-append-le}
 use Rattle.ba_memory.specs.DiskValue.{imaged, all_imaged}
 use Rattle.ba_memory.specs.inside.MediumFits.{image_of, left_of, shown_or, IsShown, IsLeft}

@@ -1,8 +1,10 @@
 -- What requests that were made in turn make of a disk in memory, for the clauses of `laws`.
-use Rattle.std.proofs.Common.{◌≡◌, ◌+◌, ℕ, inl, inr, Bool, true, false, if◌then◌else◌, List, [], ◌∷◌, ◌++◌, length, Option, Some, None, is_some, refl, sym, ◌∙◌, ap, subst}
+use Rattle.std.proofs.Common.{◌≡◌, ◌+◌, ℕ, inl, inr, Bool, true, false, if◌then◌else◌, List, [], ◌∷◌, ◌++◌, length, Option, Some, None}
+use Rattle.std.proofs.Common.{is_some, refl, sym, ◌∙◌, ap, subst}
 use Rattle.ba_ports.specs.Counts.{risen}
 use Rattle.ba_ports.specs.Disk.{InTurn, counted, if_counted, is_counted}
-use Rattle.ba_memory.specs.DiskValue.{MediumValue, DiskValue, IsUntroubled, after, changed_by, course, course_of, fails, goes_wrong, issued, Leads, run, step, synced_by, unless_failed}
+use Rattle.ba_memory.specs.DiskValue.{MediumValue, DiskValue, IsUntroubled, after, changed_by, course, course_of, fails, goes_wrong, issued}
+use Rattle.ba_memory.specs.DiskValue.{Leads, run, step, synced_by, unless_failed}
 use Rattle.ba_memory.specs.declared.changes.Change.{Change}
 use Rattle.ba_memory.specs.declared.changes.Change.TheVariants as change
 use Rattle.ba_memory.specs.declared.media.Armed.{Armed}

@@ -1,5 +1,6 @@
 -- Believe: a MemDisk as plain values, and what each call makes of them.
-use Rattle.std.specs.Prelude.{◌≡◌, ◌⊎◌, ◌+◌, ◌-◌, ◌/◌, ℕ, nat_eq, nat_lt, Bool, true, false, if◌then◌else◌, List, [], ◌∷◌, ◌++◌, length, take, drop, replicate, Option, Some, None, is_some, Result, is_err}
+use Rattle.std.specs.Prelude.{◌≡◌, ◌⊎◌, ◌+◌, ◌-◌, ◌/◌, ℕ, nat_eq, nat_lt, Bool, true, false, if◌then◌else◌, List, [], ◌∷◌, ◌++◌, length}
+use Rattle.std.specs.Prelude.{take, drop, replicate, Option, Some, None, is_some, Result, is_err}
 use Rattle.ba_ports.specs.Counts.{risen}
 use Rattle.ba_ports.specs.Disk.{written_at, Torn, CutShort, Armament, fail, stop, nothing}
 use Rattle.ba_ports.specs.declared.images.Image.{Image}

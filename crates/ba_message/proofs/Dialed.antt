@@ -1,5 +1,6 @@
 -- Reading an address from its beginning finds the one way in which it can be dialed.
-use Rattle.std.proofs.Common.{inl, inr, ◌≡◌, ◌≤◌, ◌<◌, ◌+◌, ◌-◌, ◌&&◌, ◌++◌, ◌∷◌, ℕ, suc, Bool, true, false, cond, List, [], length, take, drop, get_or, refl, sym, ap, ◌∙◌, subst, arith, true≢false, nat_le, nat_eq, codes}
+use Rattle.std.proofs.Common.{inl, inr, ◌≡◌, ◌≤◌, ◌<◌, ◌+◌, ◌-◌, ◌&&◌, ◌++◌, ◌∷◌, ℕ, suc, Bool, true, false, cond, List, [], length, take}
+use Rattle.std.proofs.Common.{drop, get_or, refl, sym, ap, ◌∙◌, subst, arith, true≢false, nat_le, nat_eq, codes}
 use Rattle.std.proofs.lemmas.Bool.{leb-true, le-leb}
 use Rattle.std.proofs.lemmas.Bool.Decides.{nat_tests}
 use Rattle.std.proofs.lemmas.List.{take-append-drop}
@@ -38,7 +39,8 @@ passes_at p xs i d all lt = by (p (get_or xs i d)) refl
 digit_is : (c : ℕ) → is_digit c ≡ true → digit_value c ≡ c - 48
 digit_is c h = grind (arith, nat_tests)
 
-pub digit_at : (ds : List ℕ) (i : ℕ) → list_all is_digit ds ≡ true → i < length ds → (digit_value (get_or ds i 0) ≡ get_or ds i 0 - 48) × (48 ≤ get_or ds i 0)
+pub digit_at : (ds : List ℕ) (i : ℕ) → list_all is_digit ds ≡ true → i < length ds
+    → (digit_value (get_or ds i 0) ≡ get_or ds i 0 - 48) × (48 ≤ get_or ds i 0)
 digit_at ds i all lt = let h = passes_at is_digit ds i 0 all lt in (digit_is (get_or ds i 0) h, grind (arith, nat_tests))
 
 -- ---- the bytes at the beginning that pass a test
@@ -46,7 +48,8 @@ digit_at ds i all lt = let h = passes_at is_digit ds i 0 all lt in (digit_is (ge
 one_more : (n : ℕ) → 1 + n ≡ suc n
 one_more n = omega arith
 
-front_of : {X : Type 0} (p : X → Bool) (xs rest : List X) → list_all p xs ≡ true → prefix_len p rest ≡ 0 → prefix_len p (xs ++ rest) ≡ length xs
+front_of : {X : Type 0} (p : X → Bool) (xs rest : List X) → list_all p xs ≡ true → prefix_len p rest ≡ 0
+    → prefix_len p (xs ++ rest) ≡ length xs
 front_of p [] rest all none = none
 front_of p (x ∷ xs) rest all none =
     ap (λ b. cond b (1 + prefix_len p (xs ++ rest)) 0) (first_of_both (p x) (list_all p xs) all)
@@ -56,8 +59,10 @@ front_passes : {X : Type 0} (p : X → Bool) (xs : List X) → list_all p (take 
 front_passes p [] = refl
 front_passes p (x ∷ xs) = by (p x) refl (front_passes p xs)
   where
-    by : (b : Bool) → p x ≡ b → list_all p (take (prefix_len p xs) xs) ≡ true → list_all p (take (cond b (1 + prefix_len p xs) 0) (x ∷ xs)) ≡ true
-    by true e others = ap (λ n. list_all p (take n (x ∷ xs))) (one_more (prefix_len p xs)) ∙ both (p x) (list_all p (take (prefix_len p xs) xs)) e others
+    by : (b : Bool) → p x ≡ b → list_all p (take (prefix_len p xs) xs) ≡ true
+        → list_all p (take (cond b (1 + prefix_len p xs) 0) (x ∷ xs)) ≡ true
+    by true e others = ap (λ n. list_all p (take n (x ∷ xs))) (one_more (prefix_len p xs))
+        ∙ both (p x) (list_all p (take (prefix_len p xs) xs)) e others
     by false e others = refl
 
 -- ---- from the parts to the reading
@@ -74,7 +79,8 @@ number_is_digits : (number : List ℕ) → is_port_number number ≡ true → li
 number_is_digits [] h = absurd (true≢false (sym h))
 number_is_digits (d ∷ ds) h =
     let front = first_of_both (is_within 0x31 0x39 d && list_all is_digit ds) _ h in
-    both (is_digit d) (list_all is_digit ds) (also_digit d (first_of_both (is_within 0x31 0x39 d) (list_all is_digit ds) front)) (second_of_both (is_within 0x31 0x39 d) (list_all is_digit ds) front)
+    both (is_digit d) (list_all is_digit ds) (also_digit d (first_of_both (is_within 0x31 0x39 d) (list_all is_digit ds) front))
+    (second_of_both (is_within 0x31 0x39 d) (list_all is_digit ds) front)
   where
     also_digit : (d : ℕ) → is_within 0x31 0x39 d ≡ true → is_digit d ≡ true
     also_digit d h = grind (arith, nat_tests)
@@ -82,8 +88,10 @@ number_is_digits (d ∷ ds) h =
 number_taken : (number path : List ℕ) → is_port_number number ≡ true → IsPath path → takes_number (number ++ path) ≡ true
 number_taken number path ok is_path =
     let long = front_of is_digit number path (number_is_digits number ok) (no_digit_first path is_path) in
-    let first : take (prefix_len is_digit (number ++ path)) (number ++ path) ≡ number = ap (λ n. take n (number ++ path)) long ∙ take-append_seam number path in
-    let later : drop (prefix_len is_digit (number ++ path)) (number ++ path) ≡ path = ap (λ n. drop n (number ++ path)) long ∙ drop-append_seam number path in
+    let first : take (prefix_len is_digit (number ++ path)) (number ++ path) ≡ number =
+    ap (λ n. take n (number ++ path)) long ∙ take-append_seam number path in
+    let later : drop (prefix_len is_digit (number ++ path)) (number ++ path) ≡ path =
+    ap (λ n. drop n (number ++ path)) long ∙ drop-append_seam number path in
     both _ _ (ap is_port_number first ∙ ok) (ap takes_path later ∙ path_taken path is_path)
 
 port_taken : (port path : List ℕ) → IsPort port → IsPath path → takes_port (port ++ path) ≡ true
@@ -107,8 +115,10 @@ host_taken : (host port path : List ℕ) → IsHost host → IsPort port → IsP
 host_taken host port path is_host is_port is_path =
     let more = port ++ path in
     let long = front_of is_host_byte host more is_host.0 (no_host_first port path is_port is_path) in
-    let later : drop (prefix_len is_host_byte (host ++ more)) (host ++ more) ≡ more = ap (λ n. drop n (host ++ more)) long ∙ drop-append_seam host more in
-    both _ _ (ap (λ n. nat_le 1 n && nat_le n MOST_HOST_BYTES) long ∙ both _ _ (le_test _ _ is_host.1) (le_test _ _ is_host.2)) (ap takes_port later ∙ port_taken port path is_port is_path)
+    let later : drop (prefix_len is_host_byte (host ++ more)) (host ++ more) ≡ more =
+    ap (λ n. drop n (host ++ more)) long ∙ drop-append_seam host more in
+    both _ _ (ap (λ n. nat_le 1 n && nat_le n MOST_HOST_BYTES) long ∙ both _ _ (le_test _ _ is_host.1) (le_test _ _ is_host.2))
+    (ap takes_port later ∙ port_taken port path is_port is_path)
   where
     le_test : (m n : ℕ) → m ≤ n → nat_le m n ≡ true
     le_test m n le = grind (arith, nat_tests)
@@ -147,25 +157,38 @@ port_found (b ∷ rest) h = by (nat_eq b 58) refl h
 
 -- the parts of what follows the scheme
 abbrev pub Parts : List ℕ → Type 0
-Parts bytes = (host : List ℕ) × (port : List ℕ) × (path : List ℕ) × IsHost host × IsPort port × IsPath path × (bytes ≡ host ++ (port ++ path))
+Parts bytes = (host : List ℕ) × (port : List ℕ) × (path : List ℕ) × IsHost host × IsPort port × IsPath path
+    × (bytes ≡ host ++ (port ++ path))
 
 host_found : (bytes : List ℕ) → takes_host bytes ≡ true → Parts bytes
 host_found bytes h =
     let long = prefix_len is_host_byte bytes in
     let sized = first_of_both (nat_le 1 long && nat_le long MOST_HOST_BYTES) (takes_port (drop long bytes)) h in
-    let more = port_found (drop long bytes) (second_of_both (nat_le 1 long && nat_le long MOST_HOST_BYTES) (takes_port (drop long bytes)) h) in
+    let more = port_found (drop long bytes) (second_of_both (nat_le 1 long && nat_le long MOST_HOST_BYTES)
+    (takes_port (drop long bytes)) h) in
     let host = take long bytes in
     let is_long : length host ≡ long = length-prefix_len is_host_byte bytes in
-    let least : 1 ≤ length host = subst (λ n. 1 ≤ n) (sym is_long) (le_of 1 long (first_of_both (nat_le 1 long) (nat_le long MOST_HOST_BYTES) sized)) in
-    let most : length host ≤ MOST_HOST_BYTES = subst (λ n. n ≤ MOST_HOST_BYTES) (sym is_long) (le_of long MOST_HOST_BYTES (second_of_both (nat_le 1 long) (nat_le long MOST_HOST_BYTES) sized)) in
-    (host, more.0, more.1, (front_passes is_host_byte bytes, least, most), more.2, more.3, sym (take-append-drop long bytes) ∙ ap (λ bs. host ++ bs) more.4)
+    let least : 1 ≤ length host = subst (λ n. 1 ≤ n) (sym is_long)
+    (le_of 1 long (first_of_both (nat_le 1 long) (nat_le long MOST_HOST_BYTES) sized)) in
+    let most : length host ≤ MOST_HOST_BYTES =
+    subst (λ n. n ≤ MOST_HOST_BYTES) (sym is_long)
+    (le_of long MOST_HOST_BYTES (second_of_both (nat_le 1 long) (nat_le long MOST_HOST_BYTES) sized)) in (
+      host,
+      more.0,
+      more.1,
+      (front_passes is_host_byte bytes, least, most),
+      more.2,
+      more.3,
+      sym (take-append-drop long bytes) ∙ ap (λ bs. host ++ bs) more.4,
+    )
   where
     le_of : (m n : ℕ) → nat_le m n ≡ true → m ≤ n
     le_of m n h = grind (arith, nat_tests)
 
 -- ---- both ways
 
-pub dialable_of : (address rest : List ℕ) → address ≡ codes "http://" ++ rest → length address ≤ MOST_ADDRESS_BYTES → takes_host rest ≡ true → IsDialable address
+pub dialable_of : (address rest : List ℕ) → address ≡ codes "http://" ++ rest → length address ≤ MOST_ADDRESS_BYTES → takes_host rest ≡ true
+    → IsDialable address
 dialable_of address rest spelled short h =
     let parts = host_found rest h in
     record {
@@ -179,14 +202,17 @@ dialable_of address rest spelled short h =
       short = short;
     }
 
-pub taken_of : (address : List ℕ) → IsDialable address → (rest : List ℕ) × (address ≡ codes "http://" ++ rest) × (takes_host rest ≡ true) × (length address ≤ MOST_ADDRESS_BYTES)
+pub taken_of : (address : List ℕ) → IsDialable address
+    → (rest : List ℕ) × (address ≡ codes "http://" ++ rest) × (takes_host rest ≡ true) × (length address ≤ MOST_ADDRESS_BYTES)
 taken_of address d =
     (d.host ++ (d.port ++ d.path), d.spelled, host_taken d.host d.port d.path d.is_host d.is_port d.is_path, d.short)
 
-pub exactly_dialable : (address rest : List ℕ) (taken : Bool) → pointwise nat_eq (take 7 address) (codes "http://") ≡ true → rest ≡ drop 7 address → length address ≤ MOST_ADDRESS_BYTES
+pub exactly_dialable : (address rest : List ℕ) (taken : Bool) → pointwise nat_eq (take 7 address) (codes "http://") ≡ true
+    → rest ≡ drop 7 address → length address ≤ MOST_ADDRESS_BYTES
     → taken ≡ takes_host rest → (taken ≡ true → IsDialable address) × (IsDialable address → taken ≡ true)
 exactly_dialable address rest taken scheme is_rest short is_taken = (
-  λ h. dialable_of address rest (sym (take-append-drop 7 address) ∙ (λ i. same_text (take 7 address) (codes "http://") (sym scheme) i ++ sym is_rest i)) short (sym is_taken ∙ h),
+  λ h. dialable_of address rest (sym (take-append-drop 7 address)
+      ∙ (λ i. same_text (take 7 address) (codes "http://") (sym scheme) i ++ sym is_rest i)) short (sym is_taken ∙ h),
   λ d. let found = taken_of address d in is_taken ∙ ap takes_host (is_rest ∙ ap (λ bs. drop 7 bs) found.1) ∙ found.2,
 )
 
@@ -201,7 +227,8 @@ dialable_by_test address h =
     let short = first_of_both (nat_le (length address) MOST_ADDRESS_BYTES) (takes_host (drop 7 address)) later in
     let host = second_of_both (nat_le (length address) MOST_ADDRESS_BYTES) (takes_host (drop 7 address)) later in
     let spelled : address ≡ codes "http://" ++ drop 7 address =
-    sym (take-append-drop 7 address) ∙ ap (λ (bs : List ℕ). bs ++ drop 7 address) (same_text (take 7 address) (codes "http://") (sym scheme)) in
+    sym (take-append-drop 7 address) ∙ ap (λ (bs : List ℕ). bs ++ drop 7 address)
+    (same_text (take 7 address) (codes "http://") (sym scheme)) in
     dialable_of address (drop 7 address) spelled (leb-true (length address) MOST_ADDRESS_BYTES short) host
 
 pub test_by_dialable : (address : List ℕ) → IsDialable address → is_dialable address ≡ true
@@ -213,5 +240,6 @@ test_by_dialable address d =
     (both (nat_le (length address) MOST_ADDRESS_BYTES) (takes_host (drop 7 address))
     (le-leb (length address) MOST_ADDRESS_BYTES found.3) (ap (λ bs. takes_host (drop 7 bs)) found.1 ∙ found.2))
 
-pub tells_dialable : (address : List ℕ) → (is_dialable address ≡ true → IsDialable address) × (IsDialable address → is_dialable address ≡ true)
+pub tells_dialable : (address : List ℕ) → (is_dialable address ≡ true → IsDialable address)
+    × (IsDialable address → is_dialable address ≡ true)
 tells_dialable address = (dialable_by_test address, test_by_dialable address)

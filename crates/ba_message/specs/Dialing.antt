@@ -22,7 +22,8 @@ takes_port (b ∷ rest) = elim (b == 0x3A) [ true ↦ takes_number rest | false 
 
 -- a host, and what may follow one
 abbrev pub takes_host : List ℕ → Bool
-takes_host bytes = (nat_le 1 (prefix_len is_host_byte bytes) && nat_le (prefix_len is_host_byte bytes) MOST_HOST_BYTES) && takes_port (drop (prefix_len is_host_byte bytes) bytes)
+takes_host bytes = (nat_le 1 (prefix_len is_host_byte bytes) && nat_le (prefix_len is_host_byte bytes) MOST_HOST_BYTES)
+    && takes_port (drop (prefix_len is_host_byte bytes) bytes)
 
 -- the scheme, and a host and what may follow one
 unfoldable pub is_dialable : List ℕ → Bool

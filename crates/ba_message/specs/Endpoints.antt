@@ -4,7 +4,8 @@ use Rattle.std.specs.Prelude.{ℕ, Bool, not, ◌+◌, ◌≤◌, ◌&&◌, List
 use Rattle.std.specs.Cmp.Lexicographic.{pointwise}
 use Rattle.std.specs.List.{list_all, list_any, sum_by}
 use Rattle.ba_message.specs.declared.endpoints.Epr.{Epr}
-use Rattle.ba_message.specs.declared.endpoints.TheConstants.{MOST_ENDPOINT_BYTES, MOST_PARAMETER_ATTRIBUTES, MOST_PARAMETER_LEVELS, MOST_PARAMETER_NAMESPACES, MOST_PARAMETERS, PARAMETER_MARK}
+use Rattle.ba_message.specs.declared.endpoints.TheConstants.{MOST_ENDPOINT_BYTES, MOST_PARAMETER_ATTRIBUTES, MOST_PARAMETER_LEVELS}
+use Rattle.ba_message.specs.declared.endpoints.TheConstants.{MOST_PARAMETER_NAMESPACES, MOST_PARAMETERS, PARAMETER_MARK}
 use Rattle.ba_tree.specs.declared.trees.Tree.{Tree}
 use Rattle.ba_tree.specs.declared.trees.Attribute.{Attribute}
 use Rattle.ba_tree.specs.Characters.{is_legal_text, has_bare_ends}

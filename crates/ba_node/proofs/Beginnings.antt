@@ -1,5 +1,6 @@
 -- How a journal is begun: its own record is kept, or its records are replayed.
-use Rattle.std.proofs.Common.{◌≡◌, ◌≢◌, inl, ℕ, ◌+◌, ◌*◌, ◌<◌, ◌≤◌, ◌^◌, Bool, List, [], ◌∷◌, length, None, Some, Result, Ok, Err, IfOk, IsTrue, refl, sym, ap, subst, arith}
+use Rattle.std.proofs.Common.{◌≡◌, ◌≢◌, inl, ℕ, ◌+◌, ◌*◌, ◌<◌, ◌≤◌, ◌^◌, Bool, List, [], ◌∷◌, length, None, Some, Result, Ok, Err, IfOk}
+use Rattle.std.proofs.Common.{IsTrue, refl, sym, ap, subst, arith}
 use Rattle.std.specs.List.{AllByRecursion}
 use Rattle.ba_journal.specs.Journals.{JournalValue}
 use Rattle.ba_journal.specs.declared.journals.TheConstants.{GREATEST_LENGTH}

@@ -1,5 +1,6 @@
 -- What a change that was due makes of a node on its journal, from what the keeping of its record makes of the journal.
-use Rattle.std.proofs.Common.{◌≡◌, ◌≢◌, ℕ, ◌+◌, ◌*◌, ◌<◌, ◌≤◌, ◌^◌, Bool, List, length, Option, None, Some, Ok, Err, IfSome, IsTrue, refl, sym, ap, ◌∙◌, subst, arith}
+use Rattle.std.proofs.Common.{◌≡◌, ◌≢◌, ℕ, ◌+◌, ◌*◌, ◌<◌, ◌≤◌, ◌^◌, Bool, List, length, Option, None, Some, Ok, Err, IfSome, IsTrue, refl}
+use Rattle.std.proofs.Common.{sym, ap, ◌∙◌, subst, arith}
 use Rattle.ba_journal.specs.Journals.{JournalValue}
 use Rattle.ba_journal.specs.declared.journals.TheConstants.{GREATEST_LENGTH}
 use Rattle.ba_node.specs.Keeping.{IsPast, end_after}

@@ -1,5 +1,6 @@
 -- How a loading of a node follows from one of its journal.
-use Rattle.std.proofs.Common.{◌≡◌, ◌≢◌, ◌⊎◌, ℕ, inl, inr, Bool, true, false, List, [], ◌∷◌, ◌++◌, length, Result, Ok, Err, refl, sym, ◌∙◌, ap, subst}
+use Rattle.std.proofs.Common.{◌≡◌, ◌≢◌, ◌⊎◌, ℕ, inl, inr, Bool, true, false, List, [], ◌∷◌, ◌++◌, length, Result, Ok, Err, refl, sym, ◌∙◌}
+use Rattle.std.proofs.Common.{ap, subst}
 use Rattle.ba_ports.specs.Disk.{InTurn, counted}
 use Rattle.ba_ports.specs.declared.requests.Call.{Call}
 use Rattle.ba_ports.specs.declared.requests.Request.{Request}

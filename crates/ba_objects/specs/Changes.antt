@@ -13,7 +13,8 @@ use Rattle.ba_objects.specs.declared.changes.ScopeChange.TheVariants as by_scope
 use Rattle.ba_objects.specs.Objects.{NodeInMemory}
 use Rattle.ba_ends.specs.Ends.{end_of}
 use Rattle.ba_ends.specs.Parts.{enrolled_part, is_registering, part_asking, part_in_state, part_owing, refused_part, tick_of_part}
-use Rattle.ba_scope.specs.Rules.{ask, choose, complete, decide, end_receive, enrol_refusal, enrolled_scope, expire, finish, leave_by, owe, refused_scope, scope_with_end, tick_end, tick_up, up_receive}
+use Rattle.ba_scope.specs.Rules.{ask, choose, complete, decide, end_receive, enrol_refusal, enrolled_scope, expire, finish, leave_by, owe}
+use Rattle.ba_scope.specs.Rules.{refused_scope, scope_with_end, tick_end, tick_up, up_receive}
 use Rattle.ba_scope.specs.Scope.{ScopeState, has_id}
 use Rattle.ba_ends.specs.declared.parts.Part.{Part}
 use Rattle.ba_steps.specs.Node.{NodeState, with_new_part, with_new_scope}

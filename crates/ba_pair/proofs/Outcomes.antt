@@ -1,5 +1,7 @@
 -- Each event of a play keeps that outcomes are recorded once.
-use Rattle.std.proofs.Common.{◌≡◌, ℕ, zero, suc, ◌⊎◌, inl, inr, Bool, true, false, IsTrue, List, [], ◌∷◌, ◌++◌, length, slice_get, Option, Some, None, unwrap_or, Result, Ok, Err, IfOk, OnOk, refl, sym, ap, ◌∙◌, subst, append_assoc, append-nil, if◌then◌else◌}
+use Rattle.std.proofs.Common.{◌≡◌, ℕ, zero, suc, ◌⊎◌, inl, inr, Bool, true, false, IsTrue, List, [], ◌∷◌, ◌++◌, length, slice_get, Option}
+use Rattle.std.proofs.Common.{Some, None, unwrap_or, Result, Ok, Err, IfOk, OnOk, refl, sym, ap, ◌∙◌, subst, append_assoc, append-nil}
+use Rattle.std.proofs.Common.{if◌then◌else◌}
 use Rattle.std.specs.Option.{option_to_list}
 use Rattle.std.proofs.lemmas.Option.{slice_get_within}
 use Rattle.ba_core.specs.EndRows.{end_rows, end_column, end_row, end_tick, chosen_state, completed_state}
@@ -28,7 +30,8 @@ use Rattle.ba_pair.specs.declared.events.StepFault.{StepFault}
 use Rattle.ba_pair.specs.declared.lines.Line.{Line}
 use Rattle.ba_pair.specs.declared.events.PairEvent.TheVariants as event
 use Rattle.ba_pair.specs.PairState.{PairState, starting_pair, is_for_part, message_at}
-use Rattle.ba_pair.specs.PairPlay.{Effect, happens, acted_effect, end_ticked_effect, part_ticked_effect, chosen_effect, completed_effect, end_received_effect, part_received_effect, delivered_effect}
+use Rattle.ba_pair.specs.PairPlay.{Effect, happens, acted_effect, end_ticked_effect, part_ticked_effect, chosen_effect, completed_effect}
+use Rattle.ba_pair.specs.PairPlay.{end_received_effect, part_received_effect, delivered_effect}
 use Rattle.ba_pair.specs.Recorded.{Played, recorded_of, recorded_by, recorded_notices, ActsFor, Sends, WasPlayed, IsSaid, OutcomesRecorded}
 
 pub some_is : {A : Type 0} {x y : A} → Some x ≡ Some y → x ≡ y

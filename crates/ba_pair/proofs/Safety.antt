@@ -1,5 +1,6 @@
 -- Every play of a pair is safe.
-use Rattle.std.proofs.Common.{◌≡◌, ◌≢◌, ℕ, false, zero, suc, List, [], ◌∷◌, ◌++◌, take, slice_get, Option, Some, None, refl, sym, subst, append_assoc, append-nil}
+use Rattle.std.proofs.Common.{◌≡◌, ◌≢◌, ℕ, false, zero, suc, List, [], ◌∷◌, ◌++◌, take, slice_get, Option, Some, None, refl, sym, subst}
+use Rattle.std.proofs.Common.{append_assoc, append-nil}
 use Rattle.std.specs.List.{AllByRecursion}
 use Rattle.ba_core.specs.declared.codes.Code.TheVariants.{InvalidState}
 use Rattle.ba_core.specs.declared.protocols.Protocol.{Protocol}

@@ -1,6 +1,7 @@
 -- Each event of a pair is the move of its link that it names, or is refused where the link has none, so what fits it
 -- stays, and no notice arrives out of place: for `Pair::step`, clauses `moves`, `fits` and `in_place`.
-use Rattle.std.proofs.Common.{◌≡◌, ◌≢◌, ℕ, ◌-◌, Bool, true, false, IsTrue, List, [], ◌++◌, map, slice_get, nat_eq, Option, Some, None, Result, Ok, Err, IfOk, OnErr, Contains, refl, sym, ap, ◌∙◌, subst, append-nil, if◌then◌else◌}
+use Rattle.std.proofs.Common.{◌≡◌, ◌≢◌, ℕ, ◌-◌, Bool, true, false, IsTrue, List, [], ◌++◌, map, slice_get, nat_eq, Option, Some, None}
+use Rattle.std.proofs.Common.{Result, Ok, Err, IfOk, OnErr, Contains, refl, sym, ap, ◌∙◌, subst, append-nil, if◌then◌else◌}
 use Rattle.std.specs.List.{AllByRecursion}
 use Rattle.std.specs.Option.{option_to_list, option_map}
 use Rattle.ba_core.specs.EndRows.{end_row, end_tick, chosen_state, completed_state}
@@ -30,7 +31,9 @@ use Rattle.ba_pair.specs.declared.lines.Line.{Line}
 use Rattle.ba_pair.specs.declared.lines.Line.TheVariants as line
 use Rattle.ba_pair.specs.declared.sides.TheConstants.{ALREADY_DECIDED, NOT_READY, WRONG_STATE}
 use Rattle.ba_pair.specs.PairState.{PairState, PairFits, link_of, state_of, message_of, is_for_part, message_at}
-use Rattle.ba_pair.specs.PairPlay.{Effect, MovesBy, arrival_of, move_of, happens, refused_effect, acted_effect, end_ticked_effect, part_ticked_effect, chosen_effect, completed_effect, end_received_effect, part_received_effect, delivered_effect}
+use Rattle.ba_pair.specs.PairPlay.{Effect, MovesBy, arrival_of, move_of, happens, refused_effect, acted_effect, end_ticked_effect}
+use Rattle.ba_pair.specs.PairPlay.{part_ticked_effect, chosen_effect, completed_effect, end_received_effect, part_received_effect}
+use Rattle.ba_pair.specs.PairPlay.{delivered_effect}
 use Rattle.ba_pair.proofs.Enrolled.{acted_enrolled, row_enrolled}
 use Rattle.ba_link.proofs.Kept.{links_stay_possible, part_in_place, end_in_place}
 use Rattle.ba_pair.proofs.Bags.{map-joined, all_joined, all_at, sent_at}

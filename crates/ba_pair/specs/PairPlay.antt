@@ -1,6 +1,7 @@
 -- Believe: the play of a pair's events: what each event leads to, what it shows, and which move of the link it is.
 -- Choosing is that of an end alone in a root scope of MixedOutcome; each message that is sent joins the bag.
-use Rattle.std.specs.Prelude.{◌≡◌, ◌≢◌, ℕ, List, [], ◌∷◌, ◌++◌, length, take, slice_get, Bool, true, false, Option, None, Some, is_some, if◌then◌else◌}
+use Rattle.std.specs.Prelude.{◌≡◌, ◌≢◌, ℕ, List, [], ◌∷◌, ◌++◌, length, take, slice_get, Bool, true, false, Option, None, Some, is_some}
+use Rattle.std.specs.Prelude.{if◌then◌else◌}
 use Rattle.std.specs.Option.{option_map, option_to_list}
 use Rattle.std.specs.List.{AllByRecursion}
 use Rattle.ba_core.specs.EndRows.{end_row, end_tick, chosen_state, completed_state}
@@ -15,7 +16,8 @@ use Rattle.ba_core.specs.declared.rows.CRow.{CRow}
 use Rattle.ba_core.specs.declared.rows.CRow.TheVariants as crow
 use Rattle.ba_core.specs.declared.rows.PRow.{PRow}
 use Rattle.ba_core.specs.declared.rows.PRow.TheVariants as prow
-use Rattle.ba_link.specs.Link.{LinkStep, Move, part_receives, end_receives, chooses, completes, acts, end_ticks, part_ticks, moved_link, settled_state}
+use Rattle.ba_link.specs.Link.{LinkStep, Move, part_receives, end_receives, chooses, completes, acts, end_ticks, part_ticks, moved_link}
+use Rattle.ba_link.specs.Link.{settled_state}
 use Rattle.ba_pair.specs.declared.events.PairEvent.{PairEvent}
 use Rattle.ba_pair.specs.declared.events.PairEvent.TheVariants.{Act, Tick, Choose, Complete, Deliver}
 use Rattle.ba_pair.specs.declared.lines.Line.{Line}
@@ -66,7 +68,8 @@ part_received_effect w prow.Invalid = (w, line.Fault InvalidState)
 part_received_effect w (prow.Row next prompt) = seen_effect (record w { part = next })
 
 abbrev pub received_effect : PairState → Notice → Effect
-received_effect w n = if is_for_part n then part_received_effect w (part_row w.protocol w.part n) else end_received_effect w (end_row w.protocol w.end n)
+received_effect w n = if is_for_part n then part_received_effect w (part_row w.protocol w.part n) else end_received_effect w
+    (end_row w.protocol w.end n)
 
 abbrev pub delivered_effect : PairState → Option Notice → Option Effect
 delivered_effect w None = None

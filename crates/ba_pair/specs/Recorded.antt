@@ -34,7 +34,8 @@ recorded_notices (m ∷ ms) = recorded_by m ++ recorded_notices ms
 
 -- by this event the participant's work comes to something that the notice tells
 abbrev pub ActsFor : Notice → Played → Type 0
-ActsFor n m = (a : Act) × (next : PState) × (m.1 ≡ event.Act a) × (acted_state m.0.protocol m.0.part a ≡ Some next) × (part_says next ≡ Some n)
+ActsFor n m = (a : Act) × (next : PState) × (m.1 ≡ event.Act a) × (acted_state m.0.protocol m.0.part a ≡ Some next)
+    × (part_says next ≡ Some n)
 
 -- by this event the participant sends the notice, which comes to this place of the bag
 abbrev pub Sends : ℕ → Notice → Played → Type 0

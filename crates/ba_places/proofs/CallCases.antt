@@ -12,7 +12,8 @@ use Rattle.ba_node.specs.Keeping.{IsPast, StandsWith, Stepped, with_record}
 use Rattle.ba_node.specs.Nodes.{NodeOnJournal}
 use Rattle.ba_node.specs.declared.faults.NodeFault.{NodeFault}
 use Rattle.ba_node.specs.declared.faults.NodeFault.TheVariants as fault
-use Rattle.ba_places.proofs.CallLemmas.{CallIs, Settled, broken_is, closed_is, closed_matches, down_is, down_matches, full_is, left_after, runs_unarmed, taken_call}
+use Rattle.ba_places.proofs.CallLemmas.{CallIs, Settled, broken_is, closed_is, closed_matches, down_is, down_matches, full_is, left_after}
+use Rattle.ba_places.proofs.CallLemmas.{runs_unarmed, taken_call}
 use Rattle.ba_places.specs.Calls.{CallLeadsTo, IsOfInput, MatchesBoth}
 use Rattle.ba_places.specs.Places.{Matches, RestsAt, RunsAt, kind_among, mode_of}
 use Rattle.ba_places.specs.declared.calls.Answer.TheVariants as answer

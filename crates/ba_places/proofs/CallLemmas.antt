@@ -1,5 +1,6 @@
 -- A call of a node that finds memory is the call of the play; for the clauses of `call_input` and `call_tick`.
-use Rattle.std.proofs.Common.{◌≡◌, ◌+◌, ℕ, inl, inr, Bool, true, false, List, [], ◌∷◌, ◌++◌, length, Option, Some, None, Ok, Err, refl, sym, ◌∙◌, ap, subst, if◌then◌else◌}
+use Rattle.std.proofs.Common.{◌≡◌, ◌+◌, ℕ, inl, inr, Bool, true, false, List, [], ◌∷◌, ◌++◌, length, Option, Some, None, Ok, Err, refl, sym}
+use Rattle.std.proofs.Common.{◌∙◌, ap, subst, if◌then◌else◌}
 use Rattle.std.specs.Option.{option_to_list}
 use Rattle.ba_events.specs.declared.outcomes.Outcome.TheVariants as outcome
 use Rattle.ba_journal.specs.Frames.{StandsFor}
@@ -11,7 +12,8 @@ use Rattle.ba_node.specs.Nodes.{NodeOnJournal}
 use Rattle.ba_node.specs.declared.faults.NodeFault.TheVariants as fault
 use Rattle.ba_play.proofs.Driven.{append_is_played, past_is_played}
 use Rattle.ba_play.specs.Disks.{HoldsNode, StandsForNode}
-use Rattle.ba_play.specs.Nodes.{append_run, broken_call, call_by_append, call_by_mode, call_by_record, called_node, disarmed, is_past_end, node_call, node_pending, node_taken}
+use Rattle.ba_play.specs.Nodes.{append_run, broken_call, call_by_append, call_by_mode, call_by_record, called_node, disarmed, is_past_end}
+use Rattle.ba_play.specs.Nodes.{node_call, node_pending, node_taken}
 use Rattle.ba_ports.specs.Disk.{InTurn, LeavesOnly, nothing}
 use Rattle.ba_ports.specs.declared.requests.Call.{Call}
 use Rattle.ba_record.specs.Coding.{coding}

@@ -1,5 +1,6 @@
 -- A loading that finds memory is the opening of the play; for the clauses of `open`.
-use Rattle.std.proofs.Common.{◌≡◌, ◌≢◌, ◌⊎◌, ◌+◌, ℕ, inl, inr, Bool, true, false, List, [], ◌∷◌, ◌++◌, Option, Some, None, Result, Ok, Err, IfOk, refl, sym, ◌∙◌, ap, subst}
+use Rattle.std.proofs.Common.{◌≡◌, ◌≢◌, ◌⊎◌, ◌+◌, ℕ, inl, inr, Bool, true, false, List, [], ◌∷◌, ◌++◌, Option, Some, None, Result, Ok, Err}
+use Rattle.std.proofs.Common.{IfOk, refl, sym, ◌∙◌, ap, subst}
 use Rattle.std.specs.Option.{option_to_list}
 use Rattle.std.proofs.lemmas.List.{append-nil}
 use Rattle.ba_core.specs.declared.memory.Memory.{Memory}
@@ -11,7 +12,8 @@ use Rattle.ba_journal.specs.Frames.{StandsFor}
 use Rattle.ba_journal.specs.Loads.{EndsFailed, settling}
 use Rattle.ba_journal.specs.Readings.{ReadsAs, reading_of, records_found}
 use Rattle.ba_journal.specs.declared.readings.Reading.{Reading}
-use Rattle.ba_memory.specs.DiskValue.{DiskValue, Drives, IsLater, MayBeLeft, MayHaveBeenLeft, MediumValue, bytes_of, chosen, rearm, restarted, restarted_medium}
+use Rattle.ba_memory.specs.DiskValue.{DiskValue, Drives, IsLater, MayBeLeft, MayHaveBeenLeft, MediumValue, bytes_of, chosen, rearm}
+use Rattle.ba_memory.specs.DiskValue.{restarted, restarted_medium}
 use Rattle.ba_memory.specs.inside.DiskLaws.{left_now, left_of_all, shown_may_stay}
 use Rattle.ba_node.specs.Loading.{MayBeginSince, Opened, beginning, begun, gate_read, opening}
 use Rattle.ba_node.specs.declared.faults.LoadFault.{LoadFault}
@@ -20,7 +22,8 @@ use Rattle.ba_node.specs.Nodes.{NodeOnJournal}
 use Rattle.ba_play.proofs.Driven.{early_is_played, load_is_played}
 use Rattle.ba_play.proofs.Openings.{opened_records}
 use Rattle.ba_play.specs.Disks.{HoldsNode, StandsForNode, pending_record}
-use Rattle.ba_play.specs.Nodes.{NodeCall, called_node, crashed, disarmed, holds_more, load_run, node_stopped, open_by_load, open_call, open_running, opened_node, running, running_by, unopened_call}
+use Rattle.ba_play.specs.Nodes.{NodeCall, called_node, crashed, disarmed, holds_more, load_run, node_stopped, open_by_load, open_call}
+use Rattle.ba_play.specs.Nodes.{open_running, opened_node, running, running_by, unopened_call}
 use Rattle.ba_ports.specs.Disk.{InTurn, LeavesOnly, counted, nothing}
 use Rattle.ba_ports.specs.declared.images.Image.{Image}
 use Rattle.ba_ports.specs.declared.requests.Call.{Call}

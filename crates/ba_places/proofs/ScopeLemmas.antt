@@ -1,5 +1,6 @@
 -- The scopes of a node are those of its identifiers, up to the last, that show a scope; for the clauses of `scope_kind` and `scopes_of`.
-use Rattle.std.proofs.Common.{◌≡◌, inl, inr, ℕ, ◌+◌, ◌<◌, ◌≤◌, ◌⊎◌, Bool, true, false, List, [], ◌∷◌, ◌++◌, map, Option, Some, None, refl, sym, ◌∙◌, ap, subst, arith, if◌then◌else◌}
+use Rattle.std.proofs.Common.{◌≡◌, inl, inr, ℕ, ◌+◌, ◌<◌, ◌≤◌, ◌⊎◌, Bool, true, false, List, [], ◌∷◌, ◌++◌, map, Option, Some, None, refl}
+use Rattle.std.proofs.Common.{sym, ◌∙◌, ap, subst, arith, if◌then◌else◌}
 use Rattle.std.specs.List.{find}
 use Rattle.std.specs.Option.{option_map}
 use Rattle.ba_core.specs.Numbers.{counter_of, id_of}
@@ -15,7 +16,8 @@ use Rattle.ba_steps.proofs.Members.{among_left, among_map, id_by_number, number_
 use Rattle.ba_steps.proofs.Objects.{ids_in_scopes, in_scopes, lone_ids, scope_here}
 use Rattle.ba_steps.proofs.Places.{scope_found}
 use Rattle.ba_steps.specs.Fits.{NodeFits}
-use Rattle.ba_steps.specs.Node.{Among, EndPlace, NodeState, PartPlace, counter, end_place, id_at, ids, last, lone, nowhere, part_place, scope_with_id, upward}
+use Rattle.ba_steps.specs.Node.{Among, EndPlace, NodeState, PartPlace, counter, end_place, id_at, ids, last, lone, nowhere, part_place}
+use Rattle.ba_steps.specs.Node.{scope_with_id, upward}
 use Rattle.ba_steps.specs.Shown.{part_seen, seen_at}
 use Rattle.ba_steps.specs.Steps.{if_found}
 use Rattle.ba_steps.specs.declared.answers.Seen.{Seen}
@@ -92,7 +94,8 @@ first_known [] id = refl
 first_known (k ∷ more) id = by_same (same_id k.id id) (first_known more id)
   where
     by_same : (b : Bool) → option_map (λ x. x.kind) (find (λ x. same_id x.id id) more) ≡ kind_among more id
-        → option_map (λ x. x.kind) (if b then Some k else find (λ x. same_id x.id id) more) ≡ (if b then Some k.kind else kind_among more id)
+        → option_map (λ x. x.kind) (if b then Some k else find (λ x. same_id x.id id) more)
+        ≡ (if b then Some k.kind else kind_among more id)
     by_same true rest = refl
     by_same false rest = rest
 

@@ -25,7 +25,8 @@ use Rattle.ba_steps.proofs.Own.{asking_who, end_changed, owing_who, up_changed}
 use Rattle.ba_steps.proofs.Places.{first_is}
 use Rattle.ba_steps.specs.Fits.{NodeFits}
 use Rattle.ba_steps.specs.Node.{EndPlace, NodeState, PartPlace, counter, end_place, lone, nowhere, part_place, upward}
-use Rattle.ba_steps.specs.Steps.{NodeStep, accepted_step, ask_end, ask_part, if_placed, on_ask, on_end_asked, on_part_asked, refusal_step, written_step}
+use Rattle.ba_steps.specs.Steps.{NodeStep, accepted_step, ask_end, ask_part, if_placed, on_ask, on_end_asked, on_part_asked, refusal_step}
+use Rattle.ba_steps.specs.Steps.{written_step}
 use Rattle.ba_steps.specs.declared.answers.Reply.TheVariants as reply
 use Rattle.ba_steps.specs.declared.answers.Wake.TheVariants as wake
 

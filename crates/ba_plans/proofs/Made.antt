@@ -1,5 +1,6 @@
 -- The plans of Create, Join and Register: what is made has the next identifier.
-use Rattle.std.proofs.Common.{◌≡◌, ℕ, Bool, true, false, not, ◌||◌, List, [], ◌∷◌, Option, None, Some, IsTrue, inl, inr, refl, sym, ap, ◌∙◌, true≢false}
+use Rattle.std.proofs.Common.{◌≡◌, ℕ, Bool, true, false, not, ◌||◌, List, [], ◌∷◌, Option, None, Some, IsTrue, inl, inr, refl, sym, ap, ◌∙◌}
+use Rattle.std.proofs.Common.{true≢false}
 use Rattle.std.specs.List.{list_any}
 use Rattle.std.specs.Option.{option_map}
 use Rattle.ba_core.specs.declared.identifiers.Id.{Id}
@@ -28,7 +29,8 @@ use Rattle.ba_steps.proofs.Objects.{end_owned, ids_in_scopes, in_scopes, lone_id
 use Rattle.ba_steps.specs.Addresses.{coordinator_of}
 use Rattle.ba_steps.specs.Fits.{HasSpareCounters}
 use Rattle.ba_steps.specs.Node.{Among, NodeState, counter, ids, next_id, scope_ids, with_new_part, with_new_scope, with_scope}
-use Rattle.ba_steps.specs.Steps.{NodeStep, create_scope, deadline_after, enrol_unless, fault_step, new_context, new_part, upward_fields, written_step}
+use Rattle.ba_steps.specs.Steps.{NodeStep, create_scope, deadline_after, enrol_unless, fault_step, new_context, new_part, upward_fields}
+use Rattle.ba_steps.specs.Steps.{written_step}
 use Rattle.ba_steps.specs.declared.answers.Reply.TheVariants as reply
 use Rattle.ba_steps.specs.declared.answers.Wake.{Wake}
 use Rattle.ba_steps.specs.declared.answers.Wake.TheVariants as wake

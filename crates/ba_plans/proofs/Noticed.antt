@@ -1,5 +1,6 @@
 -- The plans of notices: an end or a participant moves by its row, where it stands.
-use Rattle.std.proofs.Common.{◌≡◌, ℕ, Bool, true, false, not, ◌||◌, [], ◌∷◌, IsTrue, Option, None, Some, refl, sym, ap, ◌∙◌, subst, if◌then◌else◌}
+use Rattle.std.proofs.Common.{◌≡◌, ℕ, Bool, true, false, not, ◌||◌, [], ◌∷◌, IsTrue, Option, None, Some, refl, sym, ap, ◌∙◌, subst}
+use Rattle.std.proofs.Common.{if◌then◌else◌}
 use Rattle.ba_core.specs.EndRows.{end_row}
 use Rattle.ba_core.specs.Messages.{is_column}
 use Rattle.ba_core.specs.PartRows.{part_row}
@@ -36,7 +37,9 @@ use Rattle.ba_ends.specs.declared.parts.Part.{Part}
 use Rattle.ba_steps.proofs.Own.{end_changed, moved_own, notice_who}
 use Rattle.ba_steps.specs.Fits.{NodeFits}
 use Rattle.ba_steps.specs.Node.{EndPlace, NodeState, PartPlace, counter, end_place, with_scope}
-use Rattle.ba_steps.specs.Steps.{NodeStep, accepted_step, again_step, fault_step, is_get_status, is_status, on_end_asked, on_end_notice, on_end_row, on_lone_row, on_part_asked, on_part_heard, on_up_row, same_end_state, same_part_state, wake_of_end, wake_of_up, written_step}
+use Rattle.ba_steps.specs.Steps.{NodeStep, accepted_step, again_step, fault_step, is_get_status, is_status, on_end_asked, on_end_notice}
+use Rattle.ba_steps.specs.Steps.{on_end_row, on_lone_row, on_part_asked, on_part_heard, on_up_row, same_end_state, same_part_state}
+use Rattle.ba_steps.specs.Steps.{wake_of_end, wake_of_up, written_step}
 use Rattle.ba_steps.specs.declared.answers.Reply.TheVariants as reply
 use Rattle.ba_steps.specs.declared.answers.Wake.TheVariants as wake
 

@@ -23,7 +23,8 @@ use Rattle.ba_ends.specs.declared.parts.Part.{Part}
 use Rattle.ba_steps.proofs.Own.{up_changed}
 use Rattle.ba_steps.specs.Fits.{NodeFits}
 use Rattle.ba_steps.specs.Node.{NodeState, PartPlace, counter, lone, nowhere, part_place, upward, with_part_changed}
-use Rattle.ba_steps.specs.Steps.{NodeStep, accepted_step, if_found, if_placed, is_registering_state, on_enrolled, on_refused_by, refusal_number, refusal_step, written_step}
+use Rattle.ba_steps.specs.Steps.{NodeStep, accepted_step, if_found, if_placed, is_registering_state, on_enrolled, on_refused_by}
+use Rattle.ba_steps.specs.Steps.{refusal_number, refusal_step, written_step}
 use Rattle.ba_steps.specs.declared.answers.Reply.TheVariants as reply
 use Rattle.ba_steps.specs.declared.answers.TheConstants.{BAD_ADDRESS, NO_SUCH_PART}
 use Rattle.ba_steps.specs.declared.answers.Wake.TheVariants as wake

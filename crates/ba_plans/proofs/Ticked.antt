@@ -1,5 +1,6 @@
 -- The plans of ticks: what an object says, and what changes where it stands.
-use Rattle.std.proofs.Common.{◌≡◌, ℕ, ◌+◌, ◌*◌, ◌^◌, ◌<◌, Bool, true, false, not, ◌||◌, ◌&&◌, Option, None, Some, refl, sym, ap, ◌∙◌, subst, if◌then◌else◌, arith}
+use Rattle.std.proofs.Common.{◌≡◌, ℕ, ◌+◌, ◌*◌, ◌^◌, ◌<◌, Bool, true, false, not, ◌||◌, ◌&&◌, Option, None, Some, refl, sym, ap, ◌∙◌, subst}
+use Rattle.std.proofs.Common.{if◌then◌else◌, arith}
 use Rattle.std.specs.Option.{option_map}
 use Rattle.ba_core.specs.PartRows.{part_says}
 use Rattle.ba_core.specs.declared.identifiers.Id.{Id}
@@ -30,7 +31,8 @@ use Rattle.ba_steps.proofs.Places.{end_found}
 use Rattle.ba_steps.specs.Fits.{IsIdAt}
 use Rattle.ba_steps.specs.Node.{NodeState, PartPlace, end_place, lone, part_place, scope_with_id, upward, with_scope}
 use Rattle.ba_steps.specs.Steps.{if_found, is_registering_state, same_part_state}
-use Rattle.ba_steps.specs.Ticks.{TickStep, end_letter, letter_step, part_letter, register_letter, tick_at_end, tick_at_part, tick_at_scope, tick_lone, tick_step, tick_upward, ticked_step}
+use Rattle.ba_steps.specs.Ticks.{TickStep, end_letter, letter_step, part_letter, register_letter, tick_at_end, tick_at_part, tick_at_scope}
+use Rattle.ba_steps.specs.Ticks.{tick_lone, tick_step, tick_upward, ticked_step}
 use Rattle.ba_steps.specs.declared.answers.Wake.TheVariants as wake
 
 -- ---- an object's identifier has 96 bits

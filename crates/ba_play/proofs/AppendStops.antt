@@ -1,5 +1,7 @@
 -- What a failure or a stop at each call of an append leaves, and what an opening makes of it; for the law of that name.
-use Rattle.std.proofs.Common.{◌≡◌, inr, ℕ, suc, zero, ◌+◌, ◌-◌, ◌<◌, ◌≤◌, Bool, true, false, List, [], ◌∷◌, ◌++◌, length, take, drop, nat_eq, Option, None, Some, refl, sym, ◌∙◌, ap, subst, if◌then◌else◌, arith, append_assoc, length-append, true≢false}
+use Rattle.std.proofs.Common.{◌≡◌, inr, ℕ, suc, zero, ◌+◌, ◌-◌, ◌<◌, ◌≤◌, Bool, true, false, List, [], ◌∷◌, ◌++◌, length, take, drop}
+use Rattle.std.proofs.Common.{nat_eq, Option, None, Some, refl, sym, ◌∙◌, ap, subst, if◌then◌else◌, arith, append_assoc, length-append}
+use Rattle.std.proofs.Common.{true≢false}
 use Rattle.std.proofs.lemmas.Bool.{eq-eqb, ne_eqb}
 use Rattle.std.proofs.lemmas.List.{append-nil, drop_at, take-append-drop, take_at}
 use Rattle.ba_events.specs.declared.outcomes.Outcome.{Outcome}
@@ -10,7 +12,8 @@ use Rattle.ba_journal.proofs.OneMore.{another, behind_it, closed_again, seat_of}
 use Rattle.ba_journal.specs.Frames.{StandsFor}
 use Rattle.ba_journal.specs.Journals.{before_last, behind_gate}
 use Rattle.ba_journal.specs.inside.Appending.{IsFrameOf}
-use Rattle.ba_memory.specs.DiskValue.{MediumValue, all_imaged, bytes_of, changed_by, course, course_by, course_of, fails, goes_wrong, imaged, issued, noted, put, rearmed_medium, run, synced_by, unless_failed}
+use Rattle.ba_memory.specs.DiskValue.{MediumValue, all_imaged, bytes_of, changed_by, course, course_by, course_of, fails, goes_wrong}
+use Rattle.ba_memory.specs.DiskValue.{imaged, issued, noted, put, rearmed_medium, run, synced_by, unless_failed}
 use Rattle.ba_memory.specs.declared.changes.Change.{Change}
 use Rattle.ba_memory.specs.declared.changes.Change.TheVariants as change
 use Rattle.ba_memory.specs.declared.media.Armed.{Armed}

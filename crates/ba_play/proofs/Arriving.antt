@@ -1,5 +1,6 @@
 -- A message leads at its node to the input that it brings there; for the law that each event is a step of the world.
-use Rattle.std.proofs.Common.{◌≡◌, inl, inr, ℕ, suc, zero, ◌+◌, ◌-◌, ◌*◌, ◌/◌, ◌%◌, ◌^◌, Bool, true, false, List, [], ◌∷◌, nat_eq, slice_get, None, Some, refl, sym, subst, if◌then◌else◌, arith}
+use Rattle.std.proofs.Common.{◌≡◌, inl, inr, ℕ, suc, zero, ◌+◌, ◌-◌, ◌*◌, ◌/◌, ◌%◌, ◌^◌, Bool, true, false, List, [], ◌∷◌, nat_eq}
+use Rattle.std.proofs.Common.{slice_get, None, Some, refl, sym, subst, if◌then◌else◌, arith}
 use Rattle.std.proofs.lemmas.Bool.Decides.{nat_tests}
 use Rattle.ba_core.specs.Numbers.{code_part, node_of}
 use Rattle.ba_core.specs.declared.identifiers.Id.{Id}
@@ -9,7 +10,8 @@ use Rattle.ba_message.specs.Endpoints.{same_epr}
 use Rattle.ba_message.specs.declared.messages.Letter.{Letter}
 use Rattle.ba_message.specs.declared.messages.Message.{Message}
 use Rattle.ba_message.specs.declared.messages.Message.TheVariants as message
-use Rattle.ba_play.specs.Arrivals.{answer_input, arrival, identifier_in, input_by_address, letter_input, notice_input, register_input, told_input}
+use Rattle.ba_play.specs.Arrivals.{answer_input, arrival, identifier_in, input_by_address, letter_input, notice_input, register_input}
+use Rattle.ba_play.specs.Arrivals.{told_input}
 use Rattle.ba_play.specs.Plays.{mail_at}
 use Rattle.ba_runs.specs.World.{Mail, Net, answer, letter, node_at}
 use Rattle.ba_runs.specs.WorldSteps.{BringsInput}

@@ -1,5 +1,6 @@
 -- What the calls of an append or of a load, made on a disk in memory, are in a play; for the law that disks are driven as played.
-use Rattle.std.proofs.Common.{◌≡◌, ◌↔◌, ◌+◌, ℕ, inl, inr, Bool, true, false, List, [], ◌∷◌, ◌++◌, length, Option, Some, None, is_some, refl, sym, ◌∙◌, ap, subst, arith, true≢false}
+use Rattle.std.proofs.Common.{◌≡◌, ◌↔◌, ◌+◌, ℕ, inl, inr, Bool, true, false, List, [], ◌∷◌, ◌++◌, length, Option, Some, None, is_some, refl}
+use Rattle.std.proofs.Common.{sym, ◌∙◌, ap, subst, arith, true≢false}
 use Rattle.std.proofs.lemmas.Bool.Decides.{nat_tests}
 use Rattle.std.proofs.lemmas.List.{append-nil}
 use Rattle.ba_journal.proofs.ReadingOf.{computed}
@@ -9,7 +10,8 @@ use Rattle.ba_journal.specs.Loads.{EndsFailed, settling}
 use Rattle.ba_journal.specs.Readings.{ReadsAs, reading_of}
 use Rattle.ba_journal.specs.declared.readings.Reading.{Reading}
 use Rattle.ba_memory.proofs.Turns.{run_of_all, run_of_counted}
-use Rattle.ba_memory.specs.DiskValue.{DiskValue, Drives, Leads, MediumValue, after, bytes_of, course, course_of, fails, goes_wrong, run, step, synced_by, unless_failed}
+use Rattle.ba_memory.specs.DiskValue.{DiskValue, Drives, Leads, MediumValue, after, bytes_of, course, course_of, fails, goes_wrong, run}
+use Rattle.ba_memory.specs.DiskValue.{step, synced_by, unless_failed}
 use Rattle.ba_memory.specs.declared.media.Armed.{Armed}
 use Rattle.ba_memory.specs.declared.media.Course.{Course}
 use Rattle.ba_memory.specs.declared.media.Course.TheVariants.{GoesOn, Met, Refused}

@@ -10,7 +10,8 @@ use Rattle.ba_play.proofs.Posted.{occasion_gives}
 use Rattle.ba_play.specs.Disks.{DiskFits}
 use Rattle.ba_play.specs.Nodes.{NodeCall, NodeOnDisk, armed_with, crashed, lost_call, node_call, open_call}
 use Rattle.ba_play.specs.Outcomes.{occasion_outcome}
-use Rattle.ba_play.specs.Plays.{WorldOnDisks, arming_effect, crash_effect, effect_by_shown, lost_effect, next_number, occasion_effect, open_effect, with_at, with_node}
+use Rattle.ba_play.specs.Plays.{WorldOnDisks, arming_effect, crash_effect, effect_by_shown, lost_effect, next_number, occasion_effect}
+use Rattle.ba_play.specs.Plays.{open_effect, with_at, with_node}
 use Rattle.ba_play.specs.Posting.{CanPost, occasion_event}
 use Rattle.ba_ports.specs.Disk.{Armament}
 use Rattle.ba_record.specs.Coding.{InRange}

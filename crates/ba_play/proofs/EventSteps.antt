@@ -1,5 +1,6 @@
 -- Each event that is played is a step of the world; for the law of that name.
-use Rattle.std.proofs.Common.{◌≡◌, ℕ, ◌≤◌, Bool, true, false, ◌&&◌, List, ◌∷◌, nat_le, Option, None, Some, Ok, Err, refl, sym, ap, subst, if◌then◌else◌, arith, true≢false}
+use Rattle.std.proofs.Common.{◌≡◌, ℕ, ◌≤◌, Bool, true, false, ◌&&◌, List, ◌∷◌, nat_le, Option, None, Some, Ok, Err, refl, sym, ap, subst}
+use Rattle.std.proofs.Common.{if◌then◌else◌, arith, true≢false}
 use Rattle.std.proofs.lemmas.Bool.Decides.{nat_tests}
 use Rattle.ba_core.specs.Numbers.{node_of}
 use Rattle.ba_core.specs.declared.identifiers.Id.{Id}
@@ -12,7 +13,9 @@ use Rattle.ba_events.specs.declared.outcomes.Outcome.TheVariants as outcome
 use Rattle.ba_memory.specs.DiskValue.{rearmed_medium, restarted_medium}
 use Rattle.ba_play.specs.Arrivals.{arrival}
 use Rattle.ba_play.specs.Disks.{HaveSpare}
-use Rattle.ba_play.specs.Plays.{EventEffect, WorldEffect, WorldOnDisks, arming_effect, context_handed, create_at, crash_effect, deliver, delivery_by_input, effect_with, has_node, if_has_node, join_at, mail_at, moment, next_number, occasion_effect, open_effect, own_at, play_step, scope_named, with_scope_named}
+use Rattle.ba_play.specs.Plays.{EventEffect, WorldEffect, WorldOnDisks, arming_effect, context_handed, create_at, crash_effect, deliver}
+use Rattle.ba_play.specs.Plays.{delivery_by_input, effect_with, has_node, if_has_node, join_at, mail_at, moment, next_number}
+use Rattle.ba_play.specs.Plays.{occasion_effect, open_effect, own_at, play_step, scope_named, with_scope_named}
 use Rattle.ba_play.specs.Posting.{CanPost}
 use Rattle.ba_play.specs.declared.missing.Missing.TheVariants as missing
 use Rattle.ba_play.proofs.Arriving.{arrival_brings, mail_among}

@@ -14,7 +14,9 @@ use Rattle.ba_memory.specs.inside.DiskLaws.{left_of_all}
 use Rattle.ba_play.proofs.Openings.{opened_records, ready_may_stay}
 use Rattle.ba_play.proofs.Quiet.{Appends, Loads, append_keeps, broken, load_keeps, loaded, unloaded, whole}
 use Rattle.ba_play.specs.Disks.{DiskFits, HoldsNode, IsAtRest, StandsForNode, pending_record}
-use Rattle.ba_play.specs.Nodes.{NodeCall, append_run, armed_with, broken_call, call_by_append, call_by_mode, call_by_record, called_node, crashed, disarmed, holds_more, is_past_end, load_run, node_call, node_pending, node_stopped, node_taken, open_by_load, open_call, opened_by, opened_node, running, running_by, unopened_call}
+use Rattle.ba_play.specs.Nodes.{NodeCall, append_run, armed_with, broken_call, call_by_append, call_by_mode, call_by_record, called_node}
+use Rattle.ba_play.specs.Nodes.{crashed, disarmed, holds_more, is_past_end, load_run, node_call, node_pending, node_stopped, node_taken}
+use Rattle.ba_play.specs.Nodes.{open_by_load, open_call, opened_by, opened_node, running, running_by, unopened_call}
 use Rattle.ba_ports.specs.Disk.{Armament}
 use Rattle.ba_ports.specs.declared.images.Image.{Image}
 use Rattle.ba_record.specs.Coding.{InRange}

@@ -1,5 +1,7 @@
 -- A message arrives where it brings an input; for the law that messages arrive where they lead.
-use Rattle.std.proofs.Common.{◌≡◌, ◌≢◌, ℕ, suc, zero, ◌+◌, ◌-◌, ◌*◌, ◌/◌, ◌%◌, ◌^◌, ◌<◌, ◌≤◌, min, Bool, true, false, List, [], ◌∷◌, ◌++◌, length, drop, get_or, codes, nat_eq, Option, None, Some, refl, sym, ap, ◌∙◌, subst, if◌then◌else◌, arith, append_assoc, length-append}
+use Rattle.std.proofs.Common.{◌≡◌, ◌≢◌, ℕ, suc, zero, ◌+◌, ◌-◌, ◌*◌, ◌/◌, ◌%◌, ◌^◌, ◌<◌, ◌≤◌, min, Bool, true, false, List, [], ◌∷◌, ◌++◌}
+use Rattle.std.proofs.Common.{length, drop, get_or, codes, nat_eq, Option, None, Some, refl, sym, ap, ◌∙◌, subst, if◌then◌else◌, arith}
+use Rattle.std.proofs.Common.{append_assoc, length-append}
 use Rattle.std.proofs.Math.Nat.{div-div-eq-div-mul, div-le_self, pow-suc}
 use Rattle.std.proofs.lemmas.Bool.{eq-eqb}
 use Rattle.std.proofs.lemmas.Bool.Decides.{nat_tests}
@@ -15,13 +17,15 @@ use Rattle.ba_message.specs.declared.messages.Letter.{Letter}
 use Rattle.ba_message.specs.declared.messages.Message.{Message}
 use Rattle.ba_message.specs.declared.messages.Message.TheVariants as message
 use Rattle.ba_play.proofs.Arriving.{arrival_brings}
-use Rattle.ba_play.specs.Arrivals.{Arrival, answer_input, arrival, digit_value, hex_number_after, identifier_in, input_by_address, letter_arrival, letter_input, notice_input, register_input, told_input, with_hex_digit}
+use Rattle.ba_play.specs.Arrivals.{Arrival, answer_input, arrival, digit_value, hex_number_after, identifier_in, input_by_address}
+use Rattle.ba_play.specs.Arrivals.{letter_arrival, letter_input, notice_input, register_input, told_input, with_hex_digit}
 use Rattle.ba_runs.proofs.Recorded.{run_keeps}
 use Rattle.ba_runs.specs.Runs.{IsRun}
 use Rattle.ba_runs.specs.World.{Mail, Net, World, answer, letter, net_of, node_at}
 use Rattle.ba_runs.specs.WorldSteps.{BringsInput}
 use Rattle.ba_steps.proofs.Hyphens.{hyphenated_length, sides_apart}
-use Rattle.ba_steps.specs.Addresses.{coordinator_of, hex_digit, hex_digits, hyphenated, message_number, participant_of, register_code, registration_of, sender_of}
+use Rattle.ba_steps.specs.Addresses.{coordinator_of, hex_digit, hex_digits, hyphenated, message_number, participant_of, register_code}
+use Rattle.ba_steps.specs.Addresses.{registration_of, sender_of}
 use Rattle.ba_steps.specs.Node.{IsHere, NodeState}
 use Rattle.ba_steps.specs.declared.inputs.Input.{Input}
 use Rattle.ba_steps.specs.declared.inputs.Input.TheVariants as input

@@ -1,5 +1,6 @@
 -- What a call of one node of a play is to its world: a step of it. For the law that each event is a step of the world.
-use Rattle.std.proofs.Common.{◌≡◌, ◌≢◌, inl, inr, ℕ, Bool, true, false, List, [], ◌++◌, nat_eq, Option, None, Some, IfSome, refl, sym, ap, ◌∙◌, subst, if◌then◌else◌}
+use Rattle.std.proofs.Common.{◌≡◌, ◌≢◌, inl, inr, ℕ, Bool, true, false, List, [], ◌++◌, nat_eq, Option, None, Some, IfSome, refl, sym, ap}
+use Rattle.std.proofs.Common.{◌∙◌, subst, if◌then◌else◌}
 use Rattle.std.specs.Option.{option_to_list}
 use Rattle.std.proofs.lemmas.Bool.{eq-eqb, ne_eqb}
 use Rattle.std.proofs.lemmas.Bool.Decides.{eqb_tells}
@@ -9,15 +10,19 @@ use Rattle.ba_events.specs.declared.outcomes.Outcome.TheVariants as outcome
 use Rattle.ba_journal.specs.Readings.{reading_of}
 use Rattle.ba_journal.specs.declared.readings.Reading.{Reading}
 use Rattle.ba_memory.specs.DiskValue.{MediumValue, bytes_of}
-use Rattle.ba_play.specs.Nodes.{NodeCall, append_run, broken_call, call_by_append, call_by_mode, call_by_record, called_node, disarmed, holds_more, is_past_end, load_run, lost_call, node_stopped, node_taken, node_up_again, open_by_load, opened_by, running, unopened_call}
+use Rattle.ba_play.specs.Nodes.{NodeCall, append_run, broken_call, call_by_append, call_by_mode, call_by_record, called_node, disarmed}
+use Rattle.ba_play.specs.Nodes.{holds_more, is_past_end, load_run, lost_call, node_stopped, node_taken, node_up_again, open_by_load}
+use Rattle.ba_play.specs.Nodes.{opened_by, running, unopened_call}
 use Rattle.ba_play.specs.Outcomes.{occasion_outcome}
-use Rattle.ba_play.specs.Plays.{WorldEffect, WorldOnDisks, effect_by_shown, effect_of_call, effect_with, lost_effect, next_number, occasion_effect, open_effect, with_at, with_node}
+use Rattle.ba_play.specs.Plays.{WorldEffect, WorldOnDisks, effect_by_shown, effect_of_call, effect_with, lost_effect, next_number}
+use Rattle.ba_play.specs.Plays.{occasion_effect, open_effect, with_at, with_node}
 use Rattle.ba_play.specs.SafeStories.{IsInPlace}
 use Rattle.ba_ports.specs.declared.images.Image.{Image}
 use Rattle.ba_record.specs.declared.records.Record.{Record}
 use Rattle.ba_runs.specs.Safety.{IsItsRecords}
 use Rattle.ba_runs.specs.World.{Mail, Mode, Occasion, World, WorldNode, is_closed, is_down, is_up, net_of}
-use Rattle.ba_runs.specs.WorldSteps.{IsPossible, MayStillBeTaken, Stays, Takes, WorldStep, crashes, effect, fails, happens, nothing, opens_with, opens_without}
+use Rattle.ba_runs.specs.WorldSteps.{IsPossible, MayStillBeTaken, Stays, Takes, WorldStep, crashes, effect, fails, happens, nothing}
+use Rattle.ba_runs.specs.WorldSteps.{opens_with, opens_without}
 use Rattle.ba_runs.proofs.Tests.{if_false, if_true}
 use Rattle.ba_scope.proofs.Lists.{by_test}
 use Rattle.ba_steps.specs.Fits.{HasSpareCounters}

@@ -1,6 +1,7 @@
 -- What a call and an opening show, and which records an opening finds; for the laws that nothing fails by itself and that openings
 -- read the disk.
-use Rattle.std.proofs.Common.{◌≡◌, ◌≢◌, ◌⊎◌, inl, inr, ℕ, ◌+◌, ◌<◌, Bool, true, false, List, [], ◌∷◌, ◌++◌, length, nat_lt, Option, None, Some, refl, sym, ap, ◌∙◌, arith, length-append, true≢false}
+use Rattle.std.proofs.Common.{◌≡◌, ◌≢◌, ◌⊎◌, inl, inr, ℕ, ◌+◌, ◌<◌, Bool, true, false, List, [], ◌∷◌, ◌++◌, length, nat_lt, Option, None}
+use Rattle.std.proofs.Common.{Some, refl, sym, ap, ◌∙◌, arith, length-append, true≢false}
 use Rattle.std.specs.Option.{option_and_then, option_to_list}
 use Rattle.std.proofs.lemmas.Bool.Decides.{nat_tests}
 use Rattle.std.proofs.lemmas.List.{append-nil}
@@ -16,7 +17,9 @@ use Rattle.ba_memory.proofs.Turns.{runs_well}
 use Rattle.ba_memory.specs.DiskValue.{IsUntroubled, MayBeLeft, MediumValue, bytes_of, chosen}
 use Rattle.ba_memory.specs.inside.DiskLaws.{left_of_all, shown_may_stay}
 use Rattle.ba_play.specs.Disks.{HoldsNode, pending_record}
-use Rattle.ba_play.specs.Nodes.{NodeCall, append_run, call_by_append, call_by_mode, call_by_record, called_node, holds_more, is_past_end, last_place, load_run, node_call, open_by_load, open_call, opened_by, opened_node, running, running_by, unopened_call}
+use Rattle.ba_play.specs.Nodes.{NodeCall, append_run, call_by_append, call_by_mode, call_by_record, called_node, holds_more, is_past_end}
+use Rattle.ba_play.specs.Nodes.{last_place, load_run, node_call, open_by_load, open_call, opened_by, opened_node, running, running_by}
+use Rattle.ba_play.specs.Nodes.{unopened_call}
 use Rattle.ba_ports.specs.declared.images.Image.{Image}
 use Rattle.ba_ports.specs.declared.requests.Request.TheVariants.{Sync}
 use Rattle.ba_record.specs.Coding.{coding}
@@ -92,7 +95,8 @@ opened_with n found None is (inr more) =
     let none : pending_record n ≡ None = ap (option_and_then (λ (x : Occasion). (effect n.state x).written)) is in
     sym (more ∙ ap (λ (o : Option Record). n.records ++ option_to_list o) none ∙ append-nil n.records)
 opened_with n found (Some o) is (inl own) =
-    ap (λ (b : Bool). (opened_by n (Some o) b).records) (same_length (length n.records) (length (records_found found)) (ap length (sym own)))
+    ap (λ (b : Bool). (opened_by n (Some o) b).records)
+    (same_length (length n.records) (length (records_found found)) (ap length (sym own)))
     ∙ sym own
 opened_with n found (Some o) is (inr more) = by_written (effect n.state o).written refl
   where

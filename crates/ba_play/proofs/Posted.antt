@@ -1,5 +1,6 @@
 -- What is in the bag of a play can be posted, and what happens at a node gives endpoints that fit; for the law of that name.
-use Rattle.std.proofs.Common.{◌≡◌, ◌≢◌, ◌⊎◌, inl, inr, ℕ, ◌<◌, ◌^◌, Bool, true, false, ◌||◌, List, [], ◌∷◌, ◌++◌, Option, None, Some, refl, sym, ap, ◌∙◌, subst, if◌then◌else◌}
+use Rattle.std.proofs.Common.{◌≡◌, ◌≢◌, ◌⊎◌, inl, inr, ℕ, ◌<◌, ◌^◌, Bool, true, false, ◌||◌, List, [], ◌∷◌, ◌++◌, Option, None, Some, refl}
+use Rattle.std.proofs.Common.{sym, ap, ◌∙◌, subst, if◌then◌else◌}
 use Rattle.std.specs.Option.{option_map, option_to_list}
 use Rattle.std.proofs.lemmas.Bool.Decides.{eqb_tells}
 use Rattle.ba_core.specs.EndRows.{end_row}
@@ -51,7 +52,9 @@ use Rattle.ba_steps.specs.Endpoints.{AllReachable, GivesFit}
 use Rattle.ba_steps.specs.Lawful.{change, given}
 use Rattle.ba_steps.specs.Letters.{IsLetterOf, IsOwnMessage, is_known_notice}
 use Rattle.ba_steps.specs.Node.{Among, NodeState, PartPlace, end_place, lone, next_id, nowhere, part_place, scope_with_id, upward}
-use Rattle.ba_steps.specs.Steps.{NodeStep, accepted_step, again_step, enrol_unless, enrolled_before, fault_step, is_get_status, is_status, node_step, on_end_asked, on_end_row, on_lone_row, on_notice, on_part_asked, on_part_heard, on_place_notice, on_register, on_up_row, register_at, same_end_state, same_part_state, same_protocol}
+use Rattle.ba_steps.specs.Steps.{NodeStep, accepted_step, again_step, enrol_unless, enrolled_before, fault_step, is_get_status, is_status}
+use Rattle.ba_steps.specs.Steps.{node_step, on_end_asked, on_end_row, on_lone_row, on_notice, on_part_asked, on_part_heard, on_place_notice}
+use Rattle.ba_steps.specs.Steps.{on_register, on_up_row, register_at, same_end_state, same_part_state, same_protocol}
 use Rattle.ba_steps.specs.Ticks.{tick_step}
 use Rattle.ba_steps.specs.declared.answers.Reply.{Reply}
 use Rattle.ba_steps.specs.declared.answers.Reply.TheVariants as reply

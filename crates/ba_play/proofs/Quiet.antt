@@ -1,7 +1,9 @@
 -- What the requests of an append and of a load make of a disk in memory, wherever one of them fails or the machine stops; for the law
 -- that disks hold their nodes.
-use Rattle.std.proofs.Common.{◌≡◌, ◌≢◌, ◌⊎◌, ◌+◌, ◌<◌, ℕ, inl, inr, Bool, true, false, List, [], ◌∷◌, ◌++◌, length, take, None, refl, sym, ◌∙◌, ap, subst, arith}
-use Rattle.ba_journal.proofs.Ends.{Gated, at_rest_with, closed_is_zero, cut_done, cut_stands, gate_stands, gate_written, gated, length-with, own, stands_with}
+use Rattle.std.proofs.Common.{◌≡◌, ◌≢◌, ◌⊎◌, ◌+◌, ◌<◌, ℕ, inl, inr, Bool, true, false, List, [], ◌∷◌, ◌++◌, length, take, None, refl, sym}
+use Rattle.std.proofs.Common.{◌∙◌, ap, subst, arith}
+use Rattle.ba_journal.proofs.Ends.{Gated, at_rest_with, closed_is_zero, cut_done, cut_stands, gate_stands, gate_written, gated, length-with}
+use Rattle.ba_journal.proofs.Ends.{own, stands_with}
 use Rattle.ba_journal.proofs.FrameWrites.{after, gate_crash, length-staged, stage_crash, written_behind, written_gate}
 use Rattle.ba_journal.proofs.Leading.{long_enough}
 use Rattle.ba_journal.proofs.OneMore.{behind_it, seat_of}
@@ -15,7 +17,8 @@ use Rattle.ba_journal.specs.declared.readings.Reading.{Reading}
 use Rattle.ba_journal.specs.declared.readings.Reading.TheVariants.{Fresh, Found}
 use Rattle.ba_journal.specs.declared.readings.Tail.{Tail}
 use Rattle.ba_journal.specs.declared.readings.Tail.TheVariants as tail
-use Rattle.ba_memory.specs.DiskValue.{LeftOf, LeftOfOne, MayBeLeft, MediumValue, all_imaged, bytes_of, changed_by, course, fails, goes_wrong, imaged, issued, noted, put, run, settled, synced_by, unless_failed}
+use Rattle.ba_memory.specs.DiskValue.{LeftOf, LeftOfOne, MayBeLeft, MediumValue, all_imaged, bytes_of, changed_by, course, fails}
+use Rattle.ba_memory.specs.DiskValue.{goes_wrong, imaged, issued, noted, put, run, settled, synced_by, unless_failed}
 use Rattle.ba_memory.specs.DiskValue as disks
 use Rattle.ba_memory.specs.declared.changes.Change.{Change}
 use Rattle.ba_memory.specs.declared.changes.Change.TheVariants as change
@@ -227,7 +230,8 @@ module _ (disk : MediumValue) (records : List Record) (r : Record) (rest : IsAtR
   pub append_keeps : Appends records r (append_run disk r)
   append_keeps =
       elim (through (WriteAt (gate + 1) behind) (change.Write (gate + 1) behind) (writes (gate + 1) behind) disk file
-      (record { runs = rest.runs; none = rest.settled; holds = refl }) (StandsWithOrWithout records r) stands_now torn_behind gate_request) [
+      (record { runs = rest.runs; none = rest.settled; holds = refl }) (StandsWithOrWithout records r) stands_now torn_behind
+      gate_request) [
         | inl breaks ↦ broken breaks.failed breaks.left
         | inr half ↦ half_done (append_run disk r) half
       ]

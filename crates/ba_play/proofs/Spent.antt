@@ -4,7 +4,8 @@ use Rattle.ba_events.specs.declared.outcomes.Outcome.TheVariants as outcome
 use Rattle.ba_journal.specs.Readings.{reading_of}
 use Rattle.ba_journal.specs.declared.readings.Reading.{Reading}
 use Rattle.ba_memory.specs.DiskValue.{MediumValue, bytes_of}
-use Rattle.ba_play.specs.Nodes.{NodeCall, append_run, broken_call, call_by_append, call_by_mode, call_by_record, called_node, is_past_end, load_run, lost_call, node_call, open_by_load, open_call, running, unopened_call}
+use Rattle.ba_play.specs.Nodes.{NodeCall, append_run, broken_call, call_by_append, call_by_mode, call_by_record, called_node, is_past_end}
+use Rattle.ba_play.specs.Nodes.{load_run, lost_call, node_call, open_by_load, open_call, running, unopened_call}
 use Rattle.ba_ports.specs.declared.images.Image.{Image}
 use Rattle.ba_record.specs.declared.records.Record.{Record}
 use Rattle.ba_runs.specs.World.{Mode, Occasion, WorldNode, is_closed, is_down, is_up}

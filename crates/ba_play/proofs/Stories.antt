@@ -1,10 +1,12 @@
 -- The worlds of a play are a run, each of them is safe, and so is each of its lines; for the law that plays stay safe.
-use Rattle.std.proofs.Common.{◌≡◌, inl, inr, ℕ, suc, ◌+◌, ◌*◌, ◌<◌, ◌≤◌, ◌^◌, Bool, List, [], ◌∷◌, ◌++◌, length, Option, None, Some, Ok, Err, refl, sym, ap, subst, arith}
+use Rattle.std.proofs.Common.{◌≡◌, inl, inr, ℕ, suc, ◌+◌, ◌*◌, ◌<◌, ◌≤◌, ◌^◌, Bool, List, [], ◌∷◌, ◌++◌, length, Option, None, Some, Ok}
+use Rattle.std.proofs.Common.{Err, refl, sym, ap, subst, arith}
 use Rattle.std.specs.List.{AllByRecursion}
 use Rattle.std.proofs.lemmas.Bool.Decides.{eqb_tells}
 use Rattle.ba_play.specs.Disks.{DiskFits, HaveSpare}
 use Rattle.ba_play.specs.Plays.{EventEffect, WorldEffect, WorldOnDisks, node_base, play_step, starting_play, world_at_start}
-use Rattle.ba_play.specs.SafeStories.{ClosesWhatCompleted, IsInPlace, IsSafeStory, OutcomesAreRecorded, RunClosesWhatCompleted, RunIsRecorded}
+use Rattle.ba_play.specs.SafeStories.{ClosesWhatCompleted, IsInPlace, IsSafeStory, OutcomesAreRecorded, RunClosesWhatCompleted}
+use Rattle.ba_play.specs.SafeStories.{RunIsRecorded}
 use Rattle.ba_play.specs.Posting.{CanPost}
 use Rattle.ba_play.specs.Shows.{Halt, NumberedEvent, Story, story, story_by, story_from}
 use Rattle.ba_play.proofs.Bases.{base_in_range}

@@ -9,7 +9,8 @@ use Rattle.ba_memory.proofs.Turns.{runs_untroubled, runs_well}
 use Rattle.ba_memory.specs.DiskValue.{IsUntroubled, MediumValue, bytes_of}
 use Rattle.ba_play.proofs.Openings.{runs_by}
 use Rattle.ba_play.specs.Calls.{IsTaken, IsUpAgain}
-use Rattle.ba_play.specs.Nodes.{append_run, call_by_append, call_by_mode, call_by_record, called_node, holds_more, is_past_end, last_place, load_run, node_call, node_taken, open_by_load, open_call, opened_by, running}
+use Rattle.ba_play.specs.Nodes.{append_run, call_by_append, call_by_mode, call_by_record, called_node, holds_more, is_past_end, last_place}
+use Rattle.ba_play.specs.Nodes.{load_run, node_call, node_taken, open_by_load, open_call, opened_by, running}
 use Rattle.ba_ports.specs.declared.requests.Request.TheVariants.{Sync}
 use Rattle.ba_record.specs.Coding.{coding}
 use Rattle.ba_record.specs.declared.records.Record.{Record}

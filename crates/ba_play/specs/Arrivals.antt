@@ -27,7 +27,8 @@ with_hex_digit n digit = min (n * 16 + digit_value digit) (2 ^ 128 - 1)
 -- the number that is written by these digits after others, whose number comes first; hyphens part them
 abbrev pub hex_number_after : ℕ → List ℕ → ℕ
 hex_number_after n [] = n
-hex_number_after n (digit ∷ digits) = if nat_eq digit 0x2D then hex_number_after n digits else hex_number_after (with_hex_digit n digit) digits
+hex_number_after n (digit ∷ digits) = if nat_eq digit 0x2D then hex_number_after n digits else hex_number_after
+    (with_hex_digit n digit) digits
 
 -- the identifier that the last 36 bytes of an address write, if they write one
 abbrev pub identifier_in : List ℕ → Id

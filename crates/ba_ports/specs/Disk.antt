@@ -1,5 +1,6 @@
 -- Believe: the disk model: what a read gives, what a crash may leave, and by which calls one disk leads to another.
-use Rattle.std.specs.Prelude.{◌≡◌, ◌⊎◌, ◌+◌, ◌<◌, ◌≤◌, ℕ, max, Bool, true, false, List, [], ◌∷◌, ◌++◌, length, take, drop, Option, Some, None, Result, is_err}
+use Rattle.std.specs.Prelude.{◌≡◌, ◌⊎◌, ◌+◌, ◌<◌, ◌≤◌, ℕ, max, Bool, true, false, List, [], ◌∷◌, ◌++◌, length, take, drop, Option, Some}
+use Rattle.std.specs.Prelude.{None, Result, is_err}
 use Rattle.ba_ports.specs.declared.images.Image.{Image}
 use Rattle.ba_ports.specs.declared.requests.Call.{Call}
 use Rattle.ba_ports.specs.declared.requests.Request.{Request}
@@ -50,13 +51,15 @@ Only file now = (c : List ℕ) → now c → c ≡ file
 
 -- A call leads from old to new: since any state before it, a crash may have left what it may have left
 -- before the call, or what it may leave during the call, and nothing else.
-pub record Passes {D : Type 0} (later : D → D → Type 0) (left_between : D → D → List ℕ → Type 0) (during : List ℕ → Type 0) (old new : D) : Type 0 where
+pub record Passes {D : Type 0} (later : D → D → Type 0) (left_between : D → D → List ℕ → Type 0) (during : List ℕ
+    → Type 0) (old new : D) : Type 0 where
   pub goes_on : (a : D) → later a old → later a new
   pub nothing_else : (a : D) (c : List ℕ) → later a old → left_between a new c → left_between a old c ⊎ during c
   pub keeps : (a : D) (c : List ℕ) → later a old → left_between a old c → left_between a new c
 
 -- A crash at any moment from old to new leaves bytes that have P.
-pub record LeavesOnly {D : Type 0} (later : D → D → Type 0) (left_between : D → D → List ℕ → Type 0) (old new : D) (P : List ℕ → Type 0) : Type 0 where
+pub record LeavesOnly {D : Type 0} (later : D → D → Type 0) (left_between : D → D → List ℕ → Type 0) (old new : D) (P : List ℕ
+    → Type 0) : Type 0 where
   pub goes_on : later old new
   pub each : (c : List ℕ) → left_between old new c → P c
   -- for a run that began earlier
@@ -106,7 +109,8 @@ pub data Armament : Type 0 where
   nothing : Armament
 
 -- arming leaves all that a disk tells of its content
-pub record KeepsContent {D : Type 0} (follows : D → Bool) (seen : D → List ℕ) (may_leave : D → List ℕ → Type 0) (calls : D → Option (List Call)) (faults : D → ℕ) (old new : D) : Type 0 where
+pub record KeepsContent {D : Type 0} (follows : D → Bool) (seen : D → List ℕ) (may_leave : D → List ℕ → Type 0) (calls : D
+    → Option (List Call)) (faults : D → ℕ) (old new : D) : Type 0 where
   pub follows_same : follows new ≡ follows old
   pub seen_same : seen new ≡ seen old
   pub no_more : NoMore (may_leave old) (may_leave new)

@@ -1,5 +1,6 @@
 -- The tests of a base tell whether it can be dialed and has no path.
-use Rattle.std.proofs.Common.{◌≡◌, ℕ, inl, inr, Bool, true, false, true≢false, ◌&&◌, ◌||◌, not, nat_le, List, [], ◌∷◌, ◌++◌, take, drop, ap, refl, sym, ◌∙◌, codes, ◌==◌}
+use Rattle.std.proofs.Common.{◌≡◌, ℕ, inl, inr, Bool, true, false, true≢false, ◌&&◌, ◌||◌, not, nat_le, List, [], ◌∷◌, ◌++◌, take, drop, ap}
+use Rattle.std.proofs.Common.{refl, sym, ◌∙◌, codes, ◌==◌}
 use Rattle.ba_message.specs.Endpoints.{fits_endpoint}
 use Rattle.ba_message.proofs.FitTests.{fits_by_tests, tests_by_fits}
 use Rattle.std.proofs.lemmas.Bool.{eqb-true}

@@ -1,9 +1,12 @@
 -- As many levels as there are bytes are enough: with more of them a tree is read alike.
-use Rattle.std.proofs.Common.{◌≡◌, ◌≤◌, ℕ, zero, suc, Bool, true, false, nat_le, if◌then◌else◌, List, [], ◌∷◌, length, take, drop, ap, refl, ◌∙◌, subst, arith, length-drop}
+use Rattle.std.proofs.Common.{◌≡◌, ◌≤◌, ℕ, zero, suc, Bool, true, false, nat_le, if◌then◌else◌, List, [], ◌∷◌, length, take, drop, ap, refl}
+use Rattle.std.proofs.Common.{◌∙◌, subst, arith, length-drop}
 use Rattle.std.specs.Int.{w16, from_le_bytes}
 use Rattle.ba_tree.specs.declared.trees.Content.TheVariants.{Child, Text}
 use Rattle.ba_tree.specs.declared.trees.Tree.{Tree}
-use Rattle.ba_record.specs.Reading.{Reading, read, bad, short, onward, read_byte, read_front, read_number, read_string, read_many, read_name, read_attribute, read_attributes, content_of, read_content, read_contents, read_element, read_tree}
+use Rattle.ba_record.specs.Reading.{Reading, read, bad, short, onward, read_byte, read_front, read_number, read_string, read_many}
+use Rattle.ba_record.specs.Reading.{read_name, read_attribute, read_attributes, content_of, read_content, read_contents, read_element}
+use Rattle.ba_record.specs.Reading.{read_tree}
 
 -- both readings are one, which leaves at most k bytes
 pub record Agree {A : Type 0} (k : ℕ) (r s : Reading A) : Type 0 where

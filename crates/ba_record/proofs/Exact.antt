@@ -1,15 +1,18 @@
 -- Codings that are read back: what a reading makes of bytes is a value in its range whose coding they begin with, and
 -- each such value is read from its coding.
-use Rattle.std.proofs.Common.{◌≡◌, ℕ, zero, suc, ◌+◌, ◌^◌, ◌<◌, ◌≤◌, Bool, true, false, nat_le, nat_eq, Option, None, Some, List, [], ◌∷◌, ◌++◌, length, take, drop, map, get_or, ap, refl, sym, ◌∙◌, subst, append_assoc, arith, length-append}
+use Rattle.std.proofs.Common.{◌≡◌, ℕ, zero, suc, ◌+◌, ◌^◌, ◌<◌, ◌≤◌, Bool, true, false, nat_le, nat_eq, Option, None, Some, List, [], ◌∷◌}
+use Rattle.std.proofs.Common.{◌++◌, length, take, drop, map, get_or, ap, refl, sym, ◌∙◌, subst, append_assoc, arith, length-append}
 use Rattle.std.proofs.lemmas.Bool.{leb-true, eqb-true, le-leb, cond_both}
 use Rattle.std.proofs.lemmas.List.{take-append-drop, length-take-le, get_or-drop}
 use Rattle.std.proofs.Math.Seq.{take-append_seam, drop-append_seam}
-use Rattle.std.proofs.lemmas.Nat.{from_le_bytes-to_le_bytes_2, from_le_bytes-to_le_bytes_4, from_le_bytes-to_le_bytes_8, le_bytes_2, le_bytes_4, le_bytes_8}
+use Rattle.std.proofs.lemmas.Nat.{from_le_bytes-to_le_bytes_2, from_le_bytes-to_le_bytes_4, from_le_bytes-to_le_bytes_8, le_bytes_2}
+use Rattle.std.proofs.lemmas.Nat.{le_bytes_4, le_bytes_8}
 use Rattle.std.proofs.Math.Nat.{mod-eq_of_lt}
 use Rattle.std.specs.Int.{w8, w16, w32, w64, to_le_bytes, from_le_bytes}
 use Rattle.ba_tree.specs.Trees.{joined}
 use Rattle.ba_record.specs.Coding.{string_coding, option_coding}
-use Rattle.ba_record.specs.Reading.{IsBytes, Reading, read, bad, short, onward, tested, found, read_front, read_byte, read_number, read_string, with_code, read_coded, optional, read_option, read_many}
+use Rattle.ba_record.specs.Reading.{IsBytes, Reading, read, bad, short, onward, tested, found, read_front, read_byte, read_number}
+use Rattle.ba_record.specs.Reading.{read_string, with_code, read_coded, optional, read_option, read_many}
 
 pub bytes_after : (front rest bytes : List ℕ) → IsBytes bytes → bytes ≡ front ++ rest → IsBytes rest
 bytes_after front rest bytes are is i =

@@ -1,5 +1,7 @@
 -- Records are read back from their codings.
-use Rattle.std.proofs.Common.{◌≡◌, ℕ, suc, ◌+◌, ◌-◌, ◌^◌, ◌<◌, ◌≤◌, Bool, true, false, cond, ◌&&◌, nat_le, nat_eq, Option, None, Some, Ok, Err, List, [], ◌∷◌, ◌++◌, length, take, drop, ap, refl, sym, ◌∙◌, subst, append_assoc, append-nil, arith, length-append}
+use Rattle.std.proofs.Common.{◌≡◌, ℕ, suc, ◌+◌, ◌-◌, ◌^◌, ◌<◌, ◌≤◌, Bool, true, false, cond, ◌&&◌, nat_le, nat_eq, Option, None, Some, Ok}
+use Rattle.std.proofs.Common.{Err, List, [], ◌∷◌, ◌++◌, length, take, drop, ap, refl, sym, ◌∙◌, subst, append_assoc, append-nil, arith}
+use Rattle.std.proofs.Common.{length-append}
 use Rattle.ba_message.specs.Endpoints.{fits_endpoint}
 use Rattle.ba_message.specs.declared.endpoints.TheConstants.{MOST_ENDPOINT_BYTES}
 use Rattle.ba_message.proofs.FitTests.{fits_by_tests, tests_by_fits}
@@ -22,14 +24,21 @@ use Rattle.ba_message.specs.declared.endpoints.Epr.{Epr}
 use Rattle.ba_message.specs.Endpoints.{Fits}
 use Rattle.ba_core.specs.Messages.{notice_code}
 use Rattle.ba_record.specs.declared.records.Record.{Record}
-use Rattle.ba_record.specs.declared.records.Record.TheVariants.{Node, Scope, End, Part, Enrolled, Refused, Received, Acted, Decided, Chosen, Ticked, Asked}
+use Rattle.ba_record.specs.declared.records.Record.TheVariants.{Node, Scope, End, Part, Enrolled, Refused, Received, Acted, Decided, Chosen}
+use Rattle.ba_record.specs.declared.records.Record.TheVariants.{Ticked, Asked}
 use Rattle.ba_record.specs.declared.records.RecordFault.TheVariants.{BadKind}
 use Rattle.ba_record.specs.declared.records.RecordFault.{RecordFault}
 use Rattle.ba_record.specs.declared.records.RecordFault.TheVariants as fault
 use Rattle.ba_record.specs.Endpoints.{IsBase, is_base}
-use Rattle.ba_record.specs.Coding.{coding, InRange, IsCounter, IsFrom1, IsDeadline, IsUpward, counter_coding, string_coding, option_coding, upward_coding, endpoint_coding, kind_code, protocol_code, verdict_code, act_code}
-use Rattle.ba_record.specs.Reading.{IsBytes, Reading, read, bad, short, onward, tested, of_front, read_any_endpoint, read_endpoint, read_upward, read_kind, read_protocol, read_verdict, read_act, read_notice, read_from_1, read_counter, read_node_number, read_base, read_option, read_number, read_node, read_scope, read_end, read_part, read_enrolled, read_refused, read_received, read_acted, read_decided, read_chosen, read_ticked, read_asked, read_record, is_kind, whole, reading, told, ReadsTo, plain_notices, with_code}
-use Rattle.ba_record.proofs.Exact.{IsExact, went, exact_byte, exact_32, exact_64, exact_string, exact_pair, exact_tested, exact_coded, exact_option, IsString, IfThere, passed, passes, digits_are, before, goes_on}
+use Rattle.ba_record.specs.Coding.{coding, InRange, IsCounter, IsFrom1, IsDeadline, IsUpward, counter_coding, string_coding, option_coding}
+use Rattle.ba_record.specs.Coding.{upward_coding, endpoint_coding, kind_code, protocol_code, verdict_code, act_code}
+use Rattle.ba_record.specs.Reading.{IsBytes, Reading, read, bad, short, onward, tested, of_front, read_any_endpoint, read_endpoint}
+use Rattle.ba_record.specs.Reading.{read_upward, read_kind, read_protocol, read_verdict, read_act, read_notice, read_from_1, read_counter}
+use Rattle.ba_record.specs.Reading.{read_node_number, read_base, read_option, read_number, read_node, read_scope, read_end, read_part}
+use Rattle.ba_record.specs.Reading.{read_enrolled, read_refused, read_received, read_acted, read_decided, read_chosen, read_ticked}
+use Rattle.ba_record.specs.Reading.{read_asked, read_record, is_kind, whole, reading, told, ReadsTo, plain_notices, with_code}
+use Rattle.ba_record.proofs.Exact.{IsExact, went, exact_byte, exact_32, exact_64, exact_string, exact_pair, exact_tested, exact_coded}
+use Rattle.ba_record.proofs.Exact.{exact_option, IsString, IfThere, passed, passes, digits_are, before, goes_on}
 use Rattle.ba_record.proofs.Lengths.{endpoint_length_is}
 use Rattle.ba_record.proofs.ExactTrees.{exact_any_endpoint}
 use Rattle.ba_record.proofs.Bases.{base_by_tests, tests_by_base}
@@ -263,7 +272,13 @@ sound_scope bytes rest r are e =
     let p1 = went exact_kind _ p0.rest r rest p0.are_bytes p0.on in
     let p2 = went exact_deadline _ p1.rest r rest p1.are_bytes p1.on in
     let l = last exact_upward_option (λ x. Scope p0.value p1.value p2.value x) p2.rest rest r p2.are_bytes p2.on in
-    subst (IsTold 2 bytes rest) l.made ((p0.in_range, (p2.in_range, l.in_range)), ap (λ (xs : List ℕ). 2 ∷ xs) (p0.spelled ∙ ap (λ (xs : List ℕ). counter_coding p0.value ++ xs) (p1.spelled ∙ ap (λ (xs : List ℕ). kind_code p1.value ∷ xs) (p2.spelled ∙ ap (λ (xs : List ℕ). option_coding (to_le_bytes w64) p2.value ++ xs) l.spelled ∙ sym (append_assoc (option_coding (to_le_bytes w64) p2.value) (option_coding upward_coding l.value) rest)))))
+    subst (IsTold 2 bytes rest) l.made (
+      (p0.in_range, (p2.in_range, l.in_range)),
+      ap (λ (xs : List ℕ). 2 ∷ xs) (p0.spelled ∙ ap (λ (xs : List ℕ). counter_coding p0.value ++ xs)
+          (p1.spelled ∙ ap (λ (xs : List ℕ). kind_code p1.value ∷ xs)
+          (p2.spelled ∙ ap (λ (xs : List ℕ). option_coding (to_le_bytes w64) p2.value ++ xs) l.spelled
+          ∙ sym (append_assoc (option_coding (to_le_bytes w64) p2.value) (option_coding upward_coding l.value) rest)))),
+    )
 
 sound_end : SoundAt 3 read_end
 sound_end bytes rest r are e =
@@ -367,16 +382,69 @@ finished n fields f r is =
 
 -- a record in its range is read from its coding
 pub reads_back : (r : Record) → InRange r → reading (coding r) ≡ Ok r
-reads_back (Node number base) is = finished (length (coding (Node number base))) (to_le_bytes w32 number ++ string_coding base) read_node (Node number base) (goes_on exact_node_number (λ x0 r0. onward (read_base r0) (λ x1 rest. read (Node x0 x1) rest)) number ((string_coding base) ++ []) is.0 (goes_on exact_base (λ x1 rest. read (Node number x1) rest) base [] is.1 refl))
-reads_back (Scope counter kind deadline upward) is = finished (length (coding (Scope counter kind deadline upward))) (counter_coding counter ++ (kind_code kind ∷ (option_coding (to_le_bytes w64) deadline ++ option_coding upward_coding upward))) read_scope (Scope counter kind deadline upward) (goes_on exact_counter (λ x0 r0. onward (read_kind r0) (λ x1 r1. onward (read_option (read_number w64) r1) (λ x2 r2. onward (read_option read_upward r2) (λ x3 rest. read (Scope x0 x1 x2 x3) rest)))) counter (((kind_code kind ∷ []) ++ ((option_coding (to_le_bytes w64) deadline) ++ (option_coding upward_coding upward))) ++ []) is.0 (goes_on exact_kind (λ x1 r1. onward (read_option (read_number w64) r1) (λ x2 r2. onward (read_option read_upward r2) (λ x3 rest. read (Scope counter x1 x2 x3) rest))) kind (((option_coding (to_le_bytes w64) deadline) ++ (option_coding upward_coding upward)) ++ []) tt (ap (λ (xs : List ℕ). onward (read_option (read_number w64) xs) (λ d q. onward (read_option read_upward q) (λ u rest. read (Scope counter kind d u) rest))) (append_assoc (option_coding (to_le_bytes w64) deadline) (option_coding upward_coding upward) []) ∙ goes_on exact_deadline (λ x2 r2. onward (read_option read_upward r2) (λ x3 rest. read (Scope counter kind x2 x3) rest)) deadline (option_coding upward_coding upward ++ []) is.1.0 (goes_on exact_upward_option (λ x3 rest. read (Scope counter kind deadline x3) rest) upward [] is.1.1 refl))))
-reads_back (End counter scope protocol participant) is = finished (length (coding (End counter scope protocol participant))) (counter_coding counter ++ (counter_coding scope ++ (protocol_code protocol ∷ endpoint_coding participant))) read_end (End counter scope protocol participant) (goes_on exact_counter (λ x0 r0. onward (read_counter r0) (λ x1 r1. onward (read_protocol r1) (λ x2 r2. onward (read_endpoint r2) (λ x3 rest. read (End x0 x1 x2 x3) rest)))) counter (((counter_coding scope) ++ ((protocol_code protocol ∷ []) ++ (endpoint_coding participant))) ++ []) is.0 (goes_on exact_counter (λ x1 r1. onward (read_protocol r1) (λ x2 r2. onward (read_endpoint r2) (λ x3 rest. read (End counter x1 x2 x3) rest))) scope (((protocol_code protocol ∷ []) ++ (endpoint_coding participant)) ++ []) is.1.0 (goes_on exact_protocol (λ x2 r2. onward (read_endpoint r2) (λ x3 rest. read (End counter scope x2 x3) rest)) protocol ((endpoint_coding participant) ++ []) tt (goes_on exact_endpoint (λ x3 rest. read (End counter scope protocol x3) rest) participant [] is.1.1 refl))))
-reads_back (Part counter protocol registration) is = finished (length (coding (Part counter protocol registration))) (counter_coding counter ++ (protocol_code protocol ∷ endpoint_coding registration)) read_part (Part counter protocol registration) (goes_on exact_counter (λ x0 r0. onward (read_protocol r0) (λ x1 r1. onward (read_endpoint r1) (λ x2 rest. read (Part x0 x1 x2) rest))) counter (((protocol_code protocol ∷ []) ++ (endpoint_coding registration)) ++ []) is.0 (goes_on exact_protocol (λ x1 r1. onward (read_endpoint r1) (λ x2 rest. read (Part counter x1 x2) rest)) protocol ((endpoint_coding registration) ++ []) tt (goes_on exact_endpoint (λ x2 rest. read (Part counter protocol x2) rest) registration [] is.1 refl)))
-reads_back (Enrolled counter coordinator) is = finished (length (coding (Enrolled counter coordinator))) (counter_coding counter ++ endpoint_coding coordinator) read_enrolled (Enrolled counter coordinator) (goes_on exact_counter (λ x0 r0. onward (read_endpoint r0) (λ x1 rest. read (Enrolled x0 x1) rest)) counter ((endpoint_coding coordinator) ++ []) is.0 (goes_on exact_endpoint (λ x1 rest. read (Enrolled counter x1) rest) coordinator [] is.1 refl))
-reads_back (Refused counter code) is = finished (length (coding (Refused counter code))) (counter_coding counter ++ code ∷ []) read_refused (Refused counter code) (goes_on exact_counter (λ x0 r0. onward (read_from_1 2 r0) (λ x1 rest. read (Refused x0 x1) rest)) counter ((code ∷ []) ++ []) is.0 (goes_on (exact_from_1 2 (omega arith)) (λ x1 rest. read (Refused counter x1) rest) code [] is.1 refl))
-reads_back (Received counter n) is = finished (length (coding (Received counter n))) (counter_coding counter ++ notice_code n ∷ []) read_received (Received counter n) (goes_on exact_counter (λ x0 r0. onward (read_notice r0) (λ x1 rest. read (Received x0 x1) rest)) counter ((notice_code n ∷ []) ++ []) is.0 (goes_on exact_notice (λ x1 rest. read (Received counter x1) rest) n [] is.1 refl))
-reads_back (Acted counter a) is = finished (length (coding (Acted counter a))) (counter_coding counter ++ act_code a ∷ []) read_acted (Acted counter a) (goes_on exact_counter (λ x0 r0. onward (read_act r0) (λ x1 rest. read (Acted x0 x1) rest)) counter ((act_code a ∷ []) ++ []) is (goes_on exact_act (λ x1 rest. read (Acted counter x1) rest) a [] tt refl))
-reads_back (Decided counter verdict) is = finished (length (coding (Decided counter verdict))) (counter_coding counter ++ verdict_code verdict ∷ []) read_decided (Decided counter verdict) (goes_on exact_counter (λ x0 r0. onward (read_verdict r0) (λ x1 rest. read (Decided x0 x1) rest)) counter ((verdict_code verdict ∷ []) ++ []) is (goes_on exact_verdict (λ x1 rest. read (Decided counter x1) rest) verdict [] tt refl))
-reads_back (Chosen counter choice) is = finished (length (coding (Chosen counter choice))) (counter_coding counter ++ choice ∷ []) read_chosen (Chosen counter choice) (goes_on exact_counter (λ x0 r0. onward (read_from_1 3 r0) (λ x1 rest. read (Chosen x0 x1) rest)) counter ((choice ∷ []) ++ []) is.0 (goes_on (exact_from_1 3 (omega arith)) (λ x1 rest. read (Chosen counter x1) rest) choice [] is.1 refl))
+reads_back (Node number base) is = finished (length (coding (Node number base))) (to_le_bytes w32 number ++ string_coding base) read_node
+    (Node number base) (goes_on exact_node_number (λ x0 r0. onward (read_base r0) (λ x1 rest. read (Node x0 x1) rest)) number
+    ((string_coding base) ++ []) is.0 (goes_on exact_base (λ x1 rest. read (Node number x1) rest) base [] is.1 refl))
+reads_back (Scope counter kind deadline upward) is =
+    finished (length (coding (Scope counter kind deadline upward)))
+    (counter_coding counter ++ (kind_code kind ∷ (option_coding (to_le_bytes w64) deadline ++ option_coding upward_coding upward)))
+    read_scope (Scope counter kind deadline upward)
+    (goes_on exact_counter (λ x0 r0. onward (read_kind r0)
+    (λ x1 r1. onward (read_option (read_number w64) r1)
+    (λ x2 r2. onward (read_option read_upward r2) (λ x3 rest. read (Scope x0 x1 x2 x3) rest)))) counter
+    (((kind_code kind ∷ []) ++ ((option_coding (to_le_bytes w64) deadline) ++ (option_coding upward_coding upward))) ++ []) is.0
+    (goes_on exact_kind (λ x1 r1. onward (read_option (read_number w64) r1)
+    (λ x2 r2. onward (read_option read_upward r2) (λ x3 rest. read (Scope counter x1 x2 x3) rest))) kind
+    (((option_coding (to_le_bytes w64) deadline) ++ (option_coding upward_coding upward)) ++ []) tt
+    (ap (λ (xs : List ℕ). onward (read_option (read_number w64) xs)
+    (λ d q. onward (read_option read_upward q) (λ u rest. read (Scope counter kind d u) rest)))
+    (append_assoc (option_coding (to_le_bytes w64) deadline) (option_coding upward_coding upward) [])
+    ∙ goes_on exact_deadline (λ x2 r2. onward (read_option read_upward r2) (λ x3 rest. read (Scope counter kind x2 x3) rest)) deadline
+    (option_coding upward_coding upward ++ []) is.1.0
+    (goes_on exact_upward_option (λ x3 rest. read (Scope counter kind deadline x3) rest) upward [] is.1.1 refl))))
+reads_back (End counter scope protocol participant) is =
+    finished (length (coding (End counter scope protocol participant)))
+    (counter_coding counter ++ (counter_coding scope ++ (protocol_code protocol ∷ endpoint_coding participant))) read_end
+    (End counter scope protocol participant) (goes_on exact_counter
+    (λ x0 r0. onward (read_counter r0) (λ x1 r1. onward (read_protocol r1)
+    (λ x2 r2. onward (read_endpoint r2) (λ x3 rest. read (End x0 x1 x2 x3) rest)))) counter
+    (((counter_coding scope) ++ ((protocol_code protocol ∷ []) ++ (endpoint_coding participant))) ++ []) is.0
+    (goes_on exact_counter (λ x1 r1. onward (read_protocol r1)
+    (λ x2 r2. onward (read_endpoint r2) (λ x3 rest. read (End counter x1 x2 x3) rest))) scope
+    (((protocol_code protocol ∷ []) ++ (endpoint_coding participant)) ++ []) is.1.0
+    (goes_on exact_protocol (λ x2 r2. onward (read_endpoint r2) (λ x3 rest. read (End counter scope x2 x3) rest)) protocol
+    ((endpoint_coding participant) ++ []) tt (goes_on exact_endpoint (λ x3 rest. read (End counter scope protocol x3) rest) participant []
+    is.1.1 refl))))
+reads_back (Part counter protocol registration) is =
+    finished (length (coding (Part counter protocol registration)))
+    (counter_coding counter ++ (protocol_code protocol ∷ endpoint_coding registration)) read_part (Part counter protocol registration)
+    (goes_on exact_counter (λ x0 r0. onward (read_protocol r0) (λ x1 r1. onward (read_endpoint r1) (λ x2 rest. read (Part x0 x1 x2) rest)))
+    counter (((protocol_code protocol ∷ []) ++ (endpoint_coding registration)) ++ []) is.0
+    (goes_on exact_protocol (λ x1 r1. onward (read_endpoint r1) (λ x2 rest. read (Part counter x1 x2) rest)) protocol
+    ((endpoint_coding registration) ++ []) tt
+    (goes_on exact_endpoint (λ x2 rest. read (Part counter protocol x2) rest) registration [] is.1 refl)))
+reads_back (Enrolled counter coordinator) is =
+    finished (length (coding (Enrolled counter coordinator))) (counter_coding counter ++ endpoint_coding coordinator) read_enrolled
+    (Enrolled counter coordinator) (goes_on exact_counter (λ x0 r0. onward (read_endpoint r0) (λ x1 rest. read (Enrolled x0 x1) rest))
+    counter ((endpoint_coding coordinator) ++ []) is.0
+    (goes_on exact_endpoint (λ x1 rest. read (Enrolled counter x1) rest) coordinator [] is.1 refl))
+reads_back (Refused counter code) is = finished (length (coding (Refused counter code))) (counter_coding counter ++ code ∷ []) read_refused
+    (Refused counter code) (goes_on exact_counter (λ x0 r0. onward (read_from_1 2 r0) (λ x1 rest. read (Refused x0 x1) rest)) counter
+    ((code ∷ []) ++ []) is.0 (goes_on (exact_from_1 2 (omega arith)) (λ x1 rest. read (Refused counter x1) rest) code [] is.1 refl))
+reads_back (Received counter n) is = finished (length (coding (Received counter n))) (counter_coding counter ++ notice_code n ∷ [])
+    read_received (Received counter n) (goes_on exact_counter (λ x0 r0. onward (read_notice r0) (λ x1 rest. read (Received x0 x1) rest))
+    counter ((notice_code n ∷ []) ++ []) is.0 (goes_on exact_notice (λ x1 rest. read (Received counter x1) rest) n [] is.1 refl))
+reads_back (Acted counter a) is = finished (length (coding (Acted counter a))) (counter_coding counter ++ act_code a ∷ []) read_acted
+    (Acted counter a) (goes_on exact_counter (λ x0 r0. onward (read_act r0) (λ x1 rest. read (Acted x0 x1) rest)) counter
+    ((act_code a ∷ []) ++ []) is (goes_on exact_act (λ x1 rest. read (Acted counter x1) rest) a [] tt refl))
+reads_back (Decided counter verdict) is =
+    finished (length (coding (Decided counter verdict))) (counter_coding counter ++ verdict_code verdict ∷ []) read_decided
+    (Decided counter verdict) (goes_on exact_counter (λ x0 r0. onward (read_verdict r0) (λ x1 rest. read (Decided x0 x1) rest)) counter
+    ((verdict_code verdict ∷ []) ++ []) is (goes_on exact_verdict (λ x1 rest. read (Decided counter x1) rest) verdict [] tt refl))
+reads_back (Chosen counter choice) is = finished (length (coding (Chosen counter choice))) (counter_coding counter ++ choice ∷ [])
+    read_chosen (Chosen counter choice) (goes_on exact_counter (λ x0 r0. onward (read_from_1 3 r0) (λ x1 rest. read (Chosen x0 x1) rest))
+    counter ((choice ∷ []) ++ []) is.0 (goes_on (exact_from_1 3 (omega arith)) (λ x1 rest. read (Chosen counter x1) rest)
+    choice [] is.1 refl))
 reads_back (Ticked counter) is = finished (length (coding (Ticked counter))) (counter_coding counter) read_ticked (Ticked counter)
     (goes_on exact_counter (λ x0 rest. read (Ticked x0) rest) counter [] is refl)
 reads_back (Asked counter) is = finished (length (coding (Asked counter))) (counter_coding counter) read_asked (Asked counter)

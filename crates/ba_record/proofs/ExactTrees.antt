@@ -1,5 +1,6 @@
 -- Trees are read back from their codings, up to any number of levels.
-use Rattle.std.proofs.Common.{◌≡◌, ℕ, zero, suc, ◌^◌, ◌<◌, ◌⊎◌, inl, inr, List, ◌∷◌, ◌++◌, length, map, ap, refl, sym, ◌∙◌, subst, append_assoc}
+use Rattle.std.proofs.Common.{◌≡◌, ℕ, zero, suc, ◌^◌, ◌<◌, ◌⊎◌, inl, inr, List, ◌∷◌, ◌++◌, length, map, ap, refl, sym, ◌∙◌, subst}
+use Rattle.std.proofs.Common.{append_assoc}
 use Rattle.ba_message.specs.declared.endpoints.TheConstants.{MOST_ENDPOINT_BYTES}
 use Rattle.std.specs.Int.{w8, w16, to_le_bytes}
 use Rattle.ba_tree.specs.declared.trees.Name.{Name}
@@ -10,8 +11,10 @@ use Rattle.ba_tree.specs.declared.trees.Content.TheVariants.{Child, Text}
 use Rattle.ba_message.specs.declared.endpoints.Epr.{Epr}
 use Rattle.ba_tree.specs.Trees.{joined}
 use Rattle.ba_record.specs.Coding.{string_coding, name_coding, attribute_coding, content_coding, tree_coding, endpoint_coding}
-use Rattle.ba_record.specs.Reading.{IsBytes, Reading, read, onward, read_name, read_attribute, read_attributes, content_of, read_content, read_contents, read_element, read_tree, read_any_endpoint}
-use Rattle.ba_record.proofs.Exact.{IsExact, went, goes, exact_byte, exact_count, exact_16, exact_string, exact_pair, exact_counted, IsString, Each}
+use Rattle.ba_record.specs.Reading.{IsBytes, Reading, read, onward, read_name, read_attribute, read_attributes, content_of, read_content}
+use Rattle.ba_record.specs.Reading.{read_contents, read_element, read_tree, read_any_endpoint}
+use Rattle.ba_record.proofs.Exact.{IsExact, went, goes, exact_byte, exact_count, exact_16, exact_string, exact_pair, exact_counted}
+use Rattle.ba_record.proofs.Exact.{IsString, Each}
 use Rattle.ba_record.proofs.Trees.{child_coding, text_coding, tree_is}
 
 abbrev pub IsName : Name → Type 0

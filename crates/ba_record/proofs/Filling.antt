@@ -1,5 +1,6 @@
 -- What a room keeps of bytes that are put in one after another.
-use Rattle.std.proofs.Common.{◌≡◌, ◌≤◌, ℕ, zero, suc, ◌+◌, ◌-◌, min, max, List, [], ◌∷◌, ◌++◌, length, take, ap, sym, ◌∙◌, arith, append_assoc, append-nil, length-append, Result, Ok, Err, OnErr, is_ok, if◌then◌else◌, ◌<◌}
+use Rattle.std.proofs.Common.{◌≡◌, ◌≤◌, ℕ, zero, suc, ◌+◌, ◌-◌, min, max, List, [], ◌∷◌, ◌++◌, length, take, ap, sym, ◌∙◌, arith}
+use Rattle.std.proofs.Common.{append_assoc, append-nil, length-append, Result, Ok, Err, OnErr, is_ok, if◌then◌else◌, ◌<◌}
 use Rattle.std.proofs.lemmas.List.{length-take, take_all, take_min}
 use Rattle.ba_record.specs.Rooms.{RoomValue, filled}
 

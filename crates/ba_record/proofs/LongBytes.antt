@@ -1,5 +1,7 @@
 -- More bytes than any record has are refused by their front.
-use Rattle.std.proofs.Common.{◌≡◌, ◌≢◌, ◌⊎◌, inl, inr, ℕ, zero, suc, ◌+◌, ◌-◌, ◌^◌, ◌<◌, ◌≤◌, Bool, true, false, ◌&&◌, nat_le, nat_eq, if◌then◌else◌, Option, None, Some, Ok, Err, List, [], ◌∷◌, ◌++◌, length, take, drop, refl, sym, ap, ◌∙◌, subst, append_assoc, arith, length-append, length-drop}
+use Rattle.std.proofs.Common.{◌≡◌, ◌≢◌, ◌⊎◌, inl, inr, ℕ, zero, suc, ◌+◌, ◌-◌, ◌^◌, ◌<◌, ◌≤◌, Bool, true, false, ◌&&◌, nat_le, nat_eq}
+use Rattle.std.proofs.Common.{if◌then◌else◌, Option, None, Some, Ok, Err, List, [], ◌∷◌, ◌++◌, length, take, drop, refl, sym, ap, ◌∙◌}
+use Rattle.std.proofs.Common.{subst, append_assoc, arith, length-append, length-drop}
 use Rattle.ba_message.specs.Endpoints.{fits_endpoint}
 use Rattle.ba_message.specs.declared.endpoints.TheConstants.{MOST_ENDPOINT_BYTES}
 use Rattle.std.proofs.lemmas.Bool.{le-leb}
@@ -7,7 +9,8 @@ use Rattle.std.proofs.lemmas.List.{take-append-drop, take-append-le, drop-append
 use Rattle.std.specs.Int.{w16, w32, w64, from_le_bytes}
 use Rattle.ba_message.specs.declared.endpoints.Epr.{Epr}
 use Rattle.ba_record.specs.declared.records.Record.{Record}
-use Rattle.ba_record.specs.declared.records.Record.TheVariants.{Node, Scope, End, Part, Enrolled, Refused, Received, Acted, Decided, Chosen, Ticked, Asked}
+use Rattle.ba_record.specs.declared.records.Record.TheVariants.{Node, Scope, End, Part, Enrolled, Refused, Received, Acted, Decided, Chosen}
+use Rattle.ba_record.specs.declared.records.Record.TheVariants.{Ticked, Asked}
 use Rattle.ba_record.specs.declared.records.RecordFault.TheVariants.{BadKind, BadField}
 use Rattle.ba_core.specs.Messages.{notice_code}
 use Rattle.ba_core.specs.declared.notices.Act.TheVariants as act
@@ -16,7 +19,12 @@ use Rattle.ba_core.specs.declared.protocols.Protocol.TheVariants.{Pc, Cc}
 use Rattle.ba_core.specs.declared.protocols.Verdict.TheVariants.{Close, Undo}
 use Rattle.ba_record.specs.Coding.{endpoint_coding, kind_code, protocol_code, verdict_code, act_code}
 use Rattle.ba_record.specs.Endpoints.{is_base}
-use Rattle.ba_record.specs.Reading.{IsBytes, Reading, read, bad, short, onward, tested, found, read_byte, read_front, read_number, read_string, with_code, read_coded, read_from_1, read_counter, read_node_number, read_base, optional, read_option, read_any_endpoint, of_front, read_endpoint, read_protocol, read_kind, read_notice, read_act, read_verdict, plain_notices, read_upward, read_node, read_scope, read_end, read_part, read_enrolled, read_refused, read_received, read_acted, read_decided, read_chosen, read_ticked, read_asked, whole, read_record, is_kind, told, reading}
+use Rattle.ba_record.specs.Reading.{IsBytes, Reading, read, bad, short, onward, tested, found, read_byte, read_front, read_number}
+use Rattle.ba_record.specs.Reading.{read_string, with_code, read_coded, read_from_1, read_counter, read_node_number, read_base, optional}
+use Rattle.ba_record.specs.Reading.{read_option, read_any_endpoint, of_front, read_endpoint, read_protocol, read_kind, read_notice}
+use Rattle.ba_record.specs.Reading.{read_act, read_verdict, plain_notices, read_upward, read_node, read_scope, read_end, read_part}
+use Rattle.ba_record.specs.Reading.{read_enrolled, read_refused, read_received, read_acted, read_decided, read_chosen, read_ticked}
+use Rattle.ba_record.specs.Reading.{read_asked, whole, read_record, is_kind, told, reading}
 use Rattle.ba_record.proofs.Exact.{bytes_after, front_bytes, exact_16}
 use Rattle.ba_record.proofs.ExactTrees.{exact_any_endpoint}
 

@@ -1,5 +1,6 @@
 -- Steps of a reading: what a fault says of a reading, it says of what goes on from there; many values, one by one.
-use Rattle.std.proofs.Common.{◌≡◌, ◌∙◌, subst, ℕ, zero, suc, ◌+◌, ◌-◌, ◌<◌, List, [], ◌∷◌, ◌++◌, ap, refl, sym, append_assoc, append-nil, arith, length, take}
+use Rattle.std.proofs.Common.{◌≡◌, ◌∙◌, subst, ℕ, zero, suc, ◌+◌, ◌-◌, ◌<◌, List, [], ◌∷◌, ◌++◌, ap, refl, sym, append_assoc, append-nil}
+use Rattle.std.proofs.Common.{arith, length, take}
 use Rattle.std.proofs.lemmas.List.{take_all}
 use Rattle.ba_record.specs.declared.fields.FieldFault.{FieldFault}
 use Rattle.ba_record.specs.declared.fields.FieldFault.TheVariants as fault

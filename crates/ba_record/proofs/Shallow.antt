@@ -1,6 +1,7 @@
 -- What is read of an endpoint with few levels is read alike with more of them, unless it ends too soon; and one that ends
 -- too soon doesn't fit. For the clauses of `endpoint` and `ended_in`.
-use Rattle.std.proofs.Common.{◌≡◌, ◌≢◌, ◌⊎◌, inl, inr, ℕ, zero, suc, ◌+◌, ◌<◌, ◌≤◌, Bool, true, false, nat_le, if◌then◌else◌, List, [], ◌∷◌, ◌++◌, length, map, take, drop, ap, refl, sym, ◌∙◌, subst, arith}
+use Rattle.std.proofs.Common.{◌≡◌, ◌≢◌, ◌⊎◌, inl, inr, ℕ, zero, suc, ◌+◌, ◌<◌, ◌≤◌, Bool, true, false, nat_le, if◌then◌else◌, List, [], ◌∷◌}
+use Rattle.std.proofs.Common.{◌++◌, length, map, take, drop, ap, refl, sym, ◌∙◌, subst, arith}
 use Rattle.std.proofs.lemmas.Bool.{leb-true, le-leb, lt-leb}
 use Rattle.std.specs.Cmp.{first_so, second_so}
 use Rattle.std.specs.Int.{w16}
@@ -14,7 +15,9 @@ use Rattle.ba_tree.specs.declared.trees.Tree.{Tree}
 use Rattle.ba_tree.specs.Trees.{greatest, levels, levels_of}
 use Rattle.ba_tree.proofs.TreeLaws.{levels_in, levels_child}
 use Rattle.ba_record.specs.Coding.{endpoint_coding}
-use Rattle.ba_record.specs.Reading.{IsBytes, Reading, read, bad, short, onward, read_byte, read_number, read_string, read_many, read_name, read_attributes, content_of, read_content, read_contents, read_element, read_tree, read_any_endpoint, of_front, read_endpoint}
+use Rattle.ba_record.specs.Reading.{IsBytes, Reading, read, bad, short, onward, read_byte, read_number, read_string, read_many, read_name}
+use Rattle.ba_record.specs.Reading.{read_attributes, content_of, read_content, read_contents, read_element, read_tree, read_any_endpoint}
+use Rattle.ba_record.specs.Reading.{of_front, read_endpoint}
 use Rattle.ba_record.specs.inside.Skips.{read_parameters, read_shallow_endpoint, without_value}
 use Rattle.ba_record.proofs.Exact.{front_bytes, IsExact, Each, IsString, exact_count, exact_counted, exact_pair, exact_string}
 use Rattle.ba_record.proofs.ExactTrees.{IsContent, IsTree, exact_any_endpoint, exact_tree}

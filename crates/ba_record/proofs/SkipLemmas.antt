@@ -8,9 +8,11 @@ use Rattle.ba_tree.specs.declared.trees.Content.{Content}
 use Rattle.ba_tree.specs.declared.trees.Content.TheVariants.{Child, Text}
 use Rattle.ba_tree.specs.declared.trees.Tree.{Tree}
 use Rattle.ba_record.specs.declared.fields.FieldFault.{FieldFault}
-use Rattle.ba_record.specs.Reading.{Reading, read, bad, short, onward, Explains, read_number, read_string, read_many, read_name, read_attributes, read_content, read_tree, read_any_endpoint}
+use Rattle.ba_record.specs.Reading.{Reading, read, bad, short, onward, Explains, read_number, read_string, read_many, read_name}
+use Rattle.ba_record.specs.Reading.{read_attributes, read_content, read_tree, read_any_endpoint}
 use Rattle.ba_record.specs.inside.Skips.{without_value, read_parameters, read_pieces, read_tree_head, head_of, read_piece_head}
-use Rattle.ba_record.proofs.Enough.{Agree, agree_16, agree_attributes, agree_bad, agree_name, agree_onward, agree_pieces, agree_read, agree_string, agree_tree}
+use Rattle.ba_record.proofs.Enough.{Agree, agree_16, agree_attributes, agree_bad, agree_name, agree_onward, agree_pieces, agree_read}
+use Rattle.ba_record.proofs.Enough.{agree_string, agree_tree}
 use Rattle.ba_record.proofs.Onward.{explained_onward}
 
 -- ---- readings without their values

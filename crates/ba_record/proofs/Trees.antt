@@ -6,7 +6,8 @@ use Rattle.ba_tree.specs.declared.trees.Tree.{Tree}
 use Rattle.ba_tree.specs.declared.trees.Content.{Content}
 use Rattle.ba_tree.specs.declared.trees.Content.TheVariants.{Child, Text, outs-Child, outs-Text}
 use Rattle.ba_tree.specs.declared.trees.Content.TheFolds as folds
-use Rattle.ba_record.specs.Coding.{content_coding, tree_coding, layer_of_content, layer_of_tree, name_coding, attribute_coding, string_coding}
+use Rattle.ba_record.specs.Coding.{content_coding, tree_coding, layer_of_content, layer_of_tree, name_coding, attribute_coding}
+use Rattle.ba_record.specs.Coding.{string_coding}
 use Rattle.ba_tree.specs.Trees.{joined}
 
 pub child_coding : (tree : Tree) → content_coding (Child tree) ≡ 1 ∷ tree_coding tree

@@ -21,7 +21,8 @@ use Rattle.ba_message.specs.Endpoints.{Fits}
 use Rattle.ba_tree.specs.Trees.{joined}
 use Rattle.ba_record.specs.Endpoints.{IsBase}
 use Rattle.ba_record.specs.declared.records.Record.{Record}
-use Rattle.ba_record.specs.declared.records.Record.TheVariants.{Node, Scope, End, Part, Enrolled, Refused, Received, Acted, Decided, Chosen, Ticked, Asked}
+use Rattle.ba_record.specs.declared.records.Record.TheVariants.{Node, Scope, End, Part, Enrolled, Refused, Received, Acted, Decided, Chosen}
+use Rattle.ba_record.specs.declared.records.Record.TheVariants.{Ticked, Asked}
 
 -- ---- strings and trees
 
@@ -44,7 +45,8 @@ layer_of_content (Content-F.Child tree) = 1 ∷ tree
 abbrev pub layer_of_tree : Tree-F (List ℕ) (List ℕ) → List ℕ
 layer_of_tree tree =
     name_coding tree.name
-    ++ ((to_le_bytes w8 (length tree.attributes) ++ joined (map attribute_coding tree.attributes)) ++ (to_le_bytes w16 (length tree.content) ++ joined tree.content))
+    ++ ((to_le_bytes w8 (length tree.attributes) ++ joined (map attribute_coding tree.attributes))
+    ++ (to_le_bytes w16 (length tree.content) ++ joined tree.content))
 
 unfoldable pub tree_coding : Tree → List ℕ
 tree_coding = fold-Tree (List ℕ) (List ℕ) layer_of_content layer_of_tree
@@ -94,8 +96,10 @@ upward_coding upward = protocol_code upward.0 ∷ endpoint_coding upward.1
 
 abbrev pub coding : Record → List ℕ
 coding (Node number base) = 1 ∷ (to_le_bytes w32 number ++ string_coding base)
-coding (Scope counter kind deadline upward) = 2 ∷ (counter_coding counter ++ (kind_code kind ∷ (option_coding (to_le_bytes w64) deadline ++ option_coding upward_coding upward)))
-coding (End counter scope protocol participant) = 3 ∷ (counter_coding counter ++ (counter_coding scope ++ (protocol_code protocol ∷ endpoint_coding participant)))
+coding (Scope counter kind deadline upward) =
+    2 ∷ (counter_coding counter ++ (kind_code kind ∷ (option_coding (to_le_bytes w64) deadline ++ option_coding upward_coding upward)))
+coding (End counter scope protocol participant) =
+    3 ∷ (counter_coding counter ++ (counter_coding scope ++ (protocol_code protocol ∷ endpoint_coding participant)))
 coding (Part counter protocol registration) = 4 ∷ (counter_coding counter ++ (protocol_code protocol ∷ endpoint_coding registration))
 coding (Enrolled counter coordinator) = 5 ∷ (counter_coding counter ++ endpoint_coding coordinator)
 coding (Refused counter code) = 6 ∷ (counter_coding counter ++ code ∷ [])

@@ -1,6 +1,7 @@
 -- Believe: what bytes are read as: one field after another, up to the first that is outside its range or that the bytes
 -- don't hold whole.
-use Rattle.std.specs.Prelude.{◌≡◌, ℕ, zero, suc, ◌-◌, ◌<◌, slice_index, Bool, true, false, ◌&&◌, if◌then◌else◌, nat_le, nat_eq, Option, None, Some, Result, Ok, Err, List, [], ◌∷◌, ◌++◌, length, take, drop}
+use Rattle.std.specs.Prelude.{◌≡◌, ℕ, zero, suc, ◌-◌, ◌<◌, slice_index, Bool, true, false, ◌&&◌, if◌then◌else◌, nat_le, nat_eq, Option}
+use Rattle.std.specs.Prelude.{None, Some, Result, Ok, Err, List, [], ◌∷◌, ◌++◌, length, take, drop}
 use Rattle.ba_message.specs.Endpoints.{fits_endpoint}
 use Rattle.ba_message.specs.declared.endpoints.TheConstants.{MOST_ENDPOINT_BYTES}
 use Rattle.std.specs.Int.{Width, w16, w32, w64, byte_len, from_le_bytes}
@@ -24,7 +25,8 @@ use Rattle.ba_message.specs.declared.endpoints.Epr.{Epr}
 use Rattle.ba_record.specs.declared.fields.FieldFault.{FieldFault}
 use Rattle.ba_record.specs.declared.fields.FieldFault.TheVariants as fault
 use Rattle.ba_record.specs.declared.records.Record.{Record}
-use Rattle.ba_record.specs.declared.records.Record.TheVariants.{Node, Scope, End, Part, Enrolled, Refused, Received, Acted, Decided, Chosen, Ticked, Asked}
+use Rattle.ba_record.specs.declared.records.Record.TheVariants.{Node, Scope, End, Part, Enrolled, Refused, Received, Acted, Decided, Chosen}
+use Rattle.ba_record.specs.declared.records.Record.TheVariants.{Ticked, Asked}
 use Rattle.ba_record.specs.declared.records.RecordFault.{RecordFault}
 use Rattle.ba_record.specs.declared.records.RecordFault.TheVariants.{BadKind, BadField, Short}
 use Rattle.ba_record.specs.declared.records.RecordFault.TheVariants as why_not
@@ -145,10 +147,12 @@ read_many value zero bytes = read [] bytes
 read_many value (suc n) bytes = onward (value bytes) (λ a rest. onward (read_many value n rest) (λ more after. read (a ∷ more) after))
 
 abbrev pub read_name : List ℕ → Reading Name
-read_name bytes = onward (read_string bytes) (λ space rest. onward (read_string rest) (λ local after. read (record { space = space; local = local }) after))
+read_name bytes = onward (read_string bytes)
+    (λ space rest. onward (read_string rest) (λ local after. read (record { space = space; local = local }) after))
 
 abbrev pub read_attribute : List ℕ → Reading Attribute
-read_attribute bytes = onward (read_name bytes) (λ name rest. onward (read_string rest) (λ value after. read (record { name = name; value = value }) after))
+read_attribute bytes = onward (read_name bytes)
+    (λ name rest. onward (read_string rest) (λ value after. read (record { name = name; value = value }) after))
 
 -- a byte 0 and a text, or a byte 1 and a tree
 abbrev pub content_of : (List ℕ → Reading Tree) → ℕ → List ℕ → List ℕ → Reading Content
@@ -198,7 +202,8 @@ abbrev pub read_endpoint : List ℕ → Reading Epr
 read_endpoint bytes = of_front bytes (read_any_endpoint (take MOST_ENDPOINT_BYTES bytes))
 
 abbrev pub read_upward : List ℕ → Reading (Protocol × Epr)
-read_upward bytes = onward (read_protocol bytes) (λ protocol rest. onward (read_endpoint rest) (λ registration after. read (protocol, registration) after))
+read_upward bytes = onward (read_protocol bytes)
+    (λ protocol rest. onward (read_endpoint rest) (λ registration after. read (protocol, registration) after))
 
 -- ---- records
 
@@ -207,16 +212,23 @@ abbrev pub read_node : List ℕ → Reading Record
 read_node bytes = onward (read_node_number bytes) (λ number r. onward (read_base r) (λ base rest. read (Node number base) rest))
 
 abbrev pub read_scope : List ℕ → Reading Record
-read_scope bytes = onward (read_counter bytes) (λ counter r. onward (read_kind r) (λ kind r. onward (read_option (read_number w64) r) (λ deadline r. onward (read_option read_upward r) (λ upward rest. read (Scope counter kind deadline upward) rest))))
+read_scope bytes = onward (read_counter bytes)
+    (λ counter r. onward (read_kind r) (λ kind r. onward (read_option (read_number w64) r)
+    (λ deadline r. onward (read_option read_upward r) (λ upward rest. read (Scope counter kind deadline upward) rest))))
 
 abbrev pub read_end : List ℕ → Reading Record
-read_end bytes = onward (read_counter bytes) (λ counter r. onward (read_counter r) (λ scope r. onward (read_protocol r) (λ protocol r. onward (read_endpoint r) (λ participant rest. read (End counter scope protocol participant) rest))))
+read_end bytes = onward (read_counter bytes)
+    (λ counter r. onward (read_counter r) (λ scope r. onward (read_protocol r)
+    (λ protocol r. onward (read_endpoint r) (λ participant rest. read (End counter scope protocol participant) rest))))
 
 abbrev pub read_part : List ℕ → Reading Record
-read_part bytes = onward (read_counter bytes) (λ counter r. onward (read_protocol r) (λ protocol r. onward (read_endpoint r) (λ registration rest. read (Part counter protocol registration) rest)))
+read_part bytes = onward (read_counter bytes)
+    (λ counter r. onward (read_protocol r) (λ protocol r. onward (read_endpoint r)
+    (λ registration rest. read (Part counter protocol registration) rest)))
 
 abbrev pub read_enrolled : List ℕ → Reading Record
-read_enrolled bytes = onward (read_counter bytes) (λ counter r. onward (read_endpoint r) (λ coordinator rest. read (Enrolled counter coordinator) rest))
+read_enrolled bytes = onward (read_counter bytes)
+    (λ counter r. onward (read_endpoint r) (λ coordinator rest. read (Enrolled counter coordinator) rest))
 
 abbrev pub read_refused : List ℕ → Reading Record
 read_refused bytes = onward (read_counter bytes) (λ counter r. onward (read_from_1 2 r) (λ code rest. read (Refused counter code) rest))
@@ -228,7 +240,8 @@ abbrev pub read_acted : List ℕ → Reading Record
 read_acted bytes = onward (read_counter bytes) (λ counter r. onward (read_act r) (λ a rest. read (Acted counter a) rest))
 
 abbrev pub read_decided : List ℕ → Reading Record
-read_decided bytes = onward (read_counter bytes) (λ counter r. onward (read_verdict r) (λ verdict rest. read (Decided counter verdict) rest))
+read_decided bytes = onward (read_counter bytes)
+    (λ counter r. onward (read_verdict r) (λ verdict rest. read (Decided counter verdict) rest))
 
 abbrev pub read_chosen : List ℕ → Reading Record
 read_chosen bytes = onward (read_counter bytes) (λ counter r. onward (read_from_1 3 r) (λ choice rest. read (Chosen counter choice) rest))

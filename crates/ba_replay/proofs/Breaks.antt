@@ -1,5 +1,6 @@
 -- How a play goes on with its next event, and how it breaks off there: for `play_pair`, clauses `written` and `broken`.
-use Rattle.std.proofs.Common.{◌≡◌, ℕ, List, [], ◌∷◌, ◌++◌, Option, Some, None, refl, sym, ap, ◌∙◌, subst, inl, inr, ◌+◌, ◌<◌, ◌≤◌, length, take, drop, get_or, append-nil, append_assoc, add-one, drop-cons}
+use Rattle.std.proofs.Common.{◌≡◌, ℕ, List, [], ◌∷◌, ◌++◌, Option, Some, None, refl, sym, ap, ◌∙◌, subst, inl, inr, ◌+◌, ◌<◌, ◌≤◌, length}
+use Rattle.std.proofs.Common.{take, drop, get_or, append-nil, append_assoc, add-one, drop-cons}
 use Rattle.std.proofs.KnownBytes.{Appends-trans, Appends-nil}
 use Rattle.std.proofs.lemmas.List.{drop_all}
 use Rattle.std.specs.Io.KnownBytes.{Appends, Keeps}
@@ -28,7 +29,8 @@ goes_out before now text written = inr (written, refl)
 
 -- a part was written of a text that ends with the line of an event
 pub part_with_line : (effect : Option Effect) (next : PairState) (line : Line) (number : ℕ) (text longer : List ℕ)
-    → (before now : Option (List ℕ)) → effect ≡ Some (next, line) → longer ≡ text ++ numbered_line number line → WritesPart before now longer
+    → (before now : Option (List ℕ)) → effect ≡ Some (next, line) → longer ≡ text ++ numbered_line number line
+    → WritesPart before now longer
     → WritesPart before now (text ++ effect_text number effect)
 part_with_line effect next line number text longer before now happened is part =
     subst (WritesPart before now) (is ∙ ap (λ o. text ++ effect_text number o) (sym happened)) part

@@ -12,7 +12,9 @@ use Rattle.ba_events.specs.declared.outcomes.Outcome.TheVariants as outcome
 use Rattle.ba_play.specs.Arrivals.{arrival}
 use Rattle.ba_play.specs.Nodes.{NodeCall, NodeOnDisk, lost_call, node_call, open_call}
 use Rattle.ba_play.specs.Outcomes.{occasion_outcome}
-use Rattle.ba_play.specs.Plays.{EventEffect, WorldEffect, WorldOnDisks, context_handed, create_at, deliver, delivery_by_input, effect_by_shown, effect_of_call, effect_with, has_node, join_at, mail_at, moment, next_number, occasion_effect, open_effect, own_at, play_step, scope_named, starting_play}
+use Rattle.ba_play.specs.Plays.{EventEffect, WorldEffect, WorldOnDisks, context_handed, create_at, deliver, delivery_by_input}
+use Rattle.ba_play.specs.Plays.{effect_by_shown, effect_of_call, effect_with, has_node, join_at, mail_at, moment, next_number}
+use Rattle.ba_play.specs.Plays.{occasion_effect, open_effect, own_at, play_step, scope_named, starting_play}
 use Rattle.ba_play.specs.Shows.{NumberedEvent, Story, story, story_by, story_from}
 use Rattle.ba_play.specs.declared.missing.Missing.TheVariants as missing
 use Rattle.ba_runs.specs.World.{Mail, Occasion, World, WorldNode, delivers, net_of, own, ticks}

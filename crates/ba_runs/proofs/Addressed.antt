@@ -17,7 +17,8 @@ use Rattle.ba_steps.specs.declared.inputs.Input.{Input}
 use Rattle.ba_steps.specs.declared.inputs.Input.TheVariants as input
 use Rattle.ba_runs.specs.Links.{HasEnd, IsLink}
 use Rattle.ba_runs.specs.Safety.{EndpointsLead, IsAddressed, KeepsItsEnd, MailFits, of_enrolment, of_fault}
-use Rattle.ba_runs.specs.World.{Mail, Net, Occasion, PartAt, ScopeAt, answer, coordinator_at, delivers, letter, own, participant_at, registration_at, node_at, ticks}
+use Rattle.ba_runs.specs.World.{Mail, Net, Occasion, PartAt, ScopeAt, answer, coordinator_at, delivers, letter, own, participant_at}
+use Rattle.ba_runs.specs.World.{registration_at, node_at, ticks}
 use Rattle.ba_runs.specs.WorldSteps.{IsContextOf, IsPossible, IsRegistration, BringsInput, Moves, effect}
 use Rattle.ba_runs.proofs.Goes.{EndComes, EndIsNew, Enrols, IsTold, Makes, NodeGoes, SamePart, Tells, itself}
 use Rattle.ba_runs.proofs.Owners.{one_number}

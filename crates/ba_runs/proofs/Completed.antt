@@ -1,6 +1,7 @@
 -- In each run an end that is told to close was Completed in an earlier world; for the law that an end is told to close only after it
 -- completed.
-use Rattle.std.proofs.Common.{◌≡◌, ◌⊎◌, inl, inr, ℕ, Bool, true, List, [], ◌∷◌, Option, None, Some, refl, sym, ap, ◌∙◌, subst, true≢false, unwrap_or}
+use Rattle.std.proofs.Common.{◌≡◌, ◌⊎◌, inl, inr, ℕ, Bool, true, List, [], ◌∷◌, Option, None, Some, refl, sym, ap, ◌∙◌, subst, true≢false}
+use Rattle.std.proofs.Common.{unwrap_or}
 use Rattle.std.specs.List.{list_all}
 use Rattle.std.proofs.lemmas.Bool.{and_parts}
 use Rattle.ba_core.specs.EndRows.{chosen_state, completed_state, end_row, end_tick}
@@ -46,7 +47,8 @@ use Rattle.ba_runs.proofs.Letters.{heard_above, heard_below}
 use Rattle.ba_runs.proofs.Nets.{net_moves}
 use Rattle.ba_runs.proofs.Owners.{end_fits_here, end_id, one_participant, part_id, scope_fits_here, sender_is}
 use Rattle.ba_runs.proofs.Recorded.{at_or_other}
-use Rattle.ba_runs.proofs.StatesGo.{EndBefore, StateComes, StatesGo, by_notice, by_tick, by_verdict, by_wish, input_states, state_stays, states_stay, tick_states}
+use Rattle.ba_runs.proofs.StatesGo.{EndBefore, StateComes, StatesGo, by_notice, by_tick, by_verdict, by_wish, input_states, state_stays}
+use Rattle.ba_runs.proofs.StatesGo.{states_stay, tick_states}
 use Rattle.ba_runs.proofs.Told.{no_word_up, shown_side}
 
 -- ---- what is computed: an end comes to Closing from Completed alone

@@ -1,5 +1,6 @@
 -- In each world of each run a child has the kind of its parent, and was made after it; for the law of that name.
-use Rattle.std.proofs.Common.{◌≡◌, ◌⊎◌, inl, inr, ℕ, ◌+◌, ◌<◌, Bool, false, List, ◌∷◌, Option, Some, IfSome, nat_eq, arith, refl, sym, ap, ◌∙◌, subst, true≢false, if◌then◌else◌}
+use Rattle.std.proofs.Common.{◌≡◌, ◌⊎◌, inl, inr, ℕ, ◌+◌, ◌<◌, Bool, false, List, ◌∷◌, Option, Some, IfSome, nat_eq, arith, refl, sym, ap}
+use Rattle.std.proofs.Common.{◌∙◌, subst, true≢false, if◌then◌else◌}
 use Rattle.std.proofs.lemmas.Bool.{eq-eqb, ne_eqb}
 use Rattle.ba_core.specs.declared.identifiers.Id.{Id}
 use Rattle.ba_core.specs.declared.protocols.Kind.{Kind}

@@ -15,7 +15,8 @@ use Rattle.ba_ends.specs.declared.parts.Part.{Part}
 use Rattle.ba_steps.specs.declared.inputs.Input.{Input}
 use Rattle.ba_steps.specs.declared.inputs.Input.TheVariants as input
 use Rattle.ba_steps.specs.Fits.{NodeFits}
-use Rattle.ba_steps.specs.Node.{Among, HasPart, NodeState, PartPlace, lone, next_id, nowhere, part_in_place_of, scope_in_place_of, upward, with_lone, with_new_part, with_new_scope, with_part_changed, with_scope}
+use Rattle.ba_steps.specs.Node.{Among, HasPart, NodeState, PartPlace, lone, next_id, nowhere, part_in_place_of, scope_in_place_of, upward}
+use Rattle.ba_steps.specs.Node.{with_lone, with_new_part, with_new_scope, with_part_changed, with_scope}
 use Rattle.ba_steps.proofs.Members.{among_left, among_map, same_id_is}
 use Rattle.ba_steps.proofs.Objects.{one_lone, one_scope}
 use Rattle.ba_steps.proofs.Places.{Stands}

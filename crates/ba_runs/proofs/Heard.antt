@@ -29,7 +29,8 @@ use Rattle.ba_steps.proofs.Hyphens.{coordinators_apart, sides_apart}
 use Rattle.ba_steps.proofs.Places.{first_is}
 use Rattle.ba_runs.specs.Links.{answered_by, on_link, said_down, said_up}
 use Rattle.ba_runs.specs.Safety.{IsAddressed, MailFits, of_end, of_part, of_register}
-use Rattle.ba_runs.specs.World.{Mail, Net, Occasion, PartAt, ScopeAt, answer, coordinator_at, delivers, letter, node_at, own, participant_at, registration_at, ticks}
+use Rattle.ba_runs.specs.World.{Mail, Net, Occasion, PartAt, ScopeAt, answer, coordinator_at, delivers, letter, node_at, own}
+use Rattle.ba_runs.specs.World.{participant_at, registration_at, ticks}
 use Rattle.ba_runs.specs.WorldSteps.{BringsInput, IsPossible}
 use Rattle.ba_runs.proofs.Addressed.{cause_of}
 use Rattle.ba_runs.proofs.Letters.{among_contains, coordinator_is, heard_above, heard_below, sent_here}

@@ -30,7 +30,9 @@ use Rattle.ba_ends.specs.declared.ends.End.{End}
 use Rattle.ba_ends.specs.declared.parts.Part.{Part}
 use Rattle.ba_steps.specs.Addresses.{sender_of}
 use Rattle.ba_steps.specs.Node.{Among, EndPlace, HasPart, NodeState, PartPlace, end_place, lone, part_place, upward}
-use Rattle.ba_steps.specs.Steps.{NodeStep, accepted_step, again_step, fault_step, is_get_status, is_status, node_step, on_end_asked, on_end_notice, on_end_row, on_lone_row, on_part_asked, on_part_heard, on_place_notice, on_up_row, same_end_state, same_part_state}
+use Rattle.ba_steps.specs.Steps.{NodeStep, accepted_step, again_step, fault_step, is_get_status, is_status, node_step, on_end_asked}
+use Rattle.ba_steps.specs.Steps.{on_end_notice, on_end_row, on_lone_row, on_part_asked, on_part_heard, on_place_notice, on_up_row}
+use Rattle.ba_steps.specs.Steps.{same_end_state, same_part_state}
 use Rattle.ba_steps.specs.declared.answers.Reply.TheVariants as reply
 use Rattle.ba_steps.specs.declared.inputs.Input.TheVariants as input
 use Rattle.ba_steps.proofs.Cases.{found_cases}

@@ -1,5 +1,6 @@
 -- On which link a notice was sent, by its address and its number; for the law that what is sound is safe.
-use Rattle.std.proofs.Common.{◌≡◌, inl, inr, ℕ, true, false, List, [], ◌∷◌, Option, None, Some, IfSome, Contains, nat_eq, arith, refl, sym, ap, ◌∙◌, subst, if◌then◌else◌}
+use Rattle.std.proofs.Common.{◌≡◌, inl, inr, ℕ, true, false, List, [], ◌∷◌, Option, None, Some, IfSome, Contains, nat_eq, arith, refl, sym}
+use Rattle.std.proofs.Common.{ap, ◌∙◌, subst, if◌then◌else◌}
 use Rattle.std.specs.List.{cons_option, filter_map}
 use Rattle.std.proofs.lemmas.Bool.{eq-eqb, ne_eqb}
 use Rattle.std.proofs.lemmas.List.Elements.{Contains-append_right}

@@ -1,6 +1,7 @@
 -- Each link of a net moves by its table or begins, and fits afterwards; for the laws that each link moves by its table and that every
 -- step is safe.
-use Rattle.std.proofs.Common.{◌≡◌, ◌≢◌, ◌⊎◌, inl, inr, ℕ, ◌+◌, ◌*◌, ◌^◌, ◌≤◌, ◌<◌, Bool, [], ◌++◌, Option, None, Some, arith, refl, sym, ap, ◌∙◌, subst}
+use Rattle.std.proofs.Common.{◌≡◌, ◌≢◌, ◌⊎◌, inl, inr, ℕ, ◌+◌, ◌*◌, ◌^◌, ◌≤◌, ◌<◌, Bool, [], ◌++◌, Option, None, Some, arith, refl, sym, ap}
+use Rattle.std.proofs.Common.{◌∙◌, subst}
 use Rattle.std.specs.Option.{option_and_then, option_map}
 use Rattle.ba_core.specs.Numbers.{counter_of}
 use Rattle.ba_core.specs.declared.identifiers.Id.{Id}

@@ -1,5 +1,6 @@
 -- A move of a net keeps that each message says where it comes from; for the law that a move keeps a net addressed.
-use Rattle.std.proofs.Common.{◌≡◌, ◌≢◌, ◌⊎◌, inl, inr, ℕ, Bool, true, false, List, [], Option, None, Some, refl, sym, ap, ◌∙◌, subst, if◌then◌else◌}
+use Rattle.std.proofs.Common.{◌≡◌, ◌≢◌, ◌⊎◌, inl, inr, ℕ, Bool, true, false, List, [], Option, None, Some, refl, sym, ap, ◌∙◌, subst}
+use Rattle.std.proofs.Common.{if◌then◌else◌}
 use Rattle.std.specs.Option.{option_map, option_to_list}
 use Rattle.ba_core.specs.Messages.{notice_code}
 use Rattle.ba_core.specs.declared.codes.Code.{Code}
@@ -22,11 +23,13 @@ use Rattle.ba_steps.specs.Steps.{node_step}
 use Rattle.ba_steps.specs.Ticks.{tick_step}
 use Rattle.ba_runs.specs.Links.{IsLink}
 use Rattle.ba_runs.specs.Safety.{IsAddressed, MailFits, of_end, of_enrolment, of_fault, of_part, of_register}
-use Rattle.ba_runs.specs.World.{Mail, Net, Occasion, PartAt, ScopeAt, answer, coordinator_at, delivers, letter, own, participant_at, registration_at, node_at, ticks}
+use Rattle.ba_runs.specs.World.{Mail, Net, Occasion, PartAt, ScopeAt, answer, coordinator_at, delivers, letter, own, participant_at}
+use Rattle.ba_runs.specs.World.{registration_at, node_at, ticks}
 use Rattle.ba_runs.specs.WorldSteps.{BringsInput, Moves, answer_to, effect}
 use Rattle.ba_runs.proofs.Addressed.{base_stays, cause_of, coordinator_stays, endpoint_stays, endpoints_lead, goes, grows, link_goes}
 use Rattle.ba_runs.proofs.Goes.{SamePart, from_append}
-use Rattle.ba_runs.proofs.Replies.{IsAnswered, IsOwnLetter, IsOwnLetterIfAny, NoticeReply, RegisterReply, ends, notice_fits, parts, register_fits, registers, tick_fits}
+use Rattle.ba_runs.proofs.Replies.{IsAnswered, IsOwnLetter, IsOwnLetterIfAny, NoticeReply, RegisterReply, ends, notice_fits, parts}
+use Rattle.ba_runs.proofs.Replies.{register_fits, registers, tick_fits}
 use Rattle.ba_runs.proofs.RunLemmas.{moved_fits}
 use Rattle.ba_runs.proofs.Senders.{IsSenderOf, sender}
 

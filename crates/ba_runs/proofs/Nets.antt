@@ -5,7 +5,8 @@ use Rattle.std.proofs.lemmas.Bool.Decides.{eqb_tells}
 use Rattle.std.proofs.lemmas.List.{append-nil}
 use Rattle.ba_record.specs.declared.records.Record.{Record}
 use Rattle.ba_runs.specs.World.{Mail, Mode, Net, Occasion, World, WorldNode, net_of, node_at}
-use Rattle.ba_runs.specs.WorldSteps.{Moves, OnlyAt, Stays, Takes, WorldStep, crashes, fails, fails_to_open, happens, nothing, opens_with, opens_without, waits, effect}
+use Rattle.ba_runs.specs.WorldSteps.{Moves, OnlyAt, Stays, Takes, WorldStep, crashes, fails, fails_to_open, happens, nothing, opens_with}
+use Rattle.ba_runs.specs.WorldSteps.{opens_without, waits, effect}
 
 pub same_net : (w w2 : Net) → ((j : ℕ) → node_at w2 j ≡ node_at w j) → w2.bag ≡ w.bag → w ≡ w2
 same_net w w2 states bag = sym (λ i. record { bag = bag i; states = λ j. states j i })

@@ -10,7 +10,8 @@ use Rattle.ba_scope.proofs.Calls.{by_option}
 use Rattle.ba_scope.proofs.Lists.{by_test}
 use Rattle.ba_ends.specs.Ends.{Tick, end_after_notice, end_asking, end_owing, end_with_verdict_if_none, tick_of_end, same_id}
 use Rattle.ba_ends.specs.Parts.{enrolled_part, part_asking, part_in_state, part_owing, refused_part, tick_of_part}
-use Rattle.ba_scope.specs.Rules.{ScopeStep, choose, complete, decide, expire, finish, is_expired, leave_by, scope_with_end, tick_up, with_end_changed, with_up, with_up_moved}
+use Rattle.ba_scope.specs.Rules.{ScopeStep, choose, complete, decide, expire, finish, is_expired, leave_by, scope_with_end, tick_up}
+use Rattle.ba_scope.specs.Rules.{with_end_changed, with_up, with_up_moved}
 use Rattle.ba_scope.specs.Scope.{ScopeState}
 use Rattle.ba_scope.specs.declared.answers.Said.{Said}
 use Rattle.ba_ends.specs.declared.ends.End.{End}
@@ -18,10 +19,13 @@ use Rattle.ba_ends.specs.declared.parts.Part.{Part}
 use Rattle.ba_steps.specs.declared.inputs.Input.{Input}
 use Rattle.ba_steps.specs.declared.inputs.Input.TheVariants as input
 use Rattle.ba_steps.specs.Fits.{NodeFits}
-use Rattle.ba_steps.specs.Node.{Among, EndPlace, NodeState, PartPlace, lone, next_id, nowhere, scope_in_place_of, upward, with_lone, with_new_part, with_new_scope, with_part_changed, with_scope}
+use Rattle.ba_steps.specs.Node.{Among, EndPlace, NodeState, PartPlace, lone, next_id, nowhere, scope_in_place_of, upward, with_lone}
+use Rattle.ba_steps.specs.Node.{with_new_part, with_new_scope, with_part_changed, with_scope}
 use Rattle.ba_steps.specs.Steps.{NodeStep, node_step}
 use Rattle.ba_steps.specs.Ticks.{TickStep, tick_step}
-use Rattle.ba_steps.proofs.Cases.{act_cases, ask_cases, create_cases, end_notice_cases, enrolled_cases, join_cases, on_choose_cases, on_complete_cases, on_decide_cases, on_finish_cases, on_leave_cases, part_notice_cases, refused_cases, register_cases, tick_cases}
+use Rattle.ba_steps.proofs.Cases.{act_cases, ask_cases, create_cases, end_notice_cases, enrolled_cases, join_cases, on_choose_cases}
+use Rattle.ba_steps.proofs.Cases.{on_complete_cases, on_decide_cases, on_finish_cases, on_leave_cases, part_notice_cases, refused_cases}
+use Rattle.ba_steps.proofs.Cases.{register_cases, tick_cases}
 use Rattle.ba_steps.proofs.Members.{among_left, among_map, same_id_is}
 use Rattle.ba_steps.proofs.NodeKept.{id_kept}
 use Rattle.ba_steps.proofs.Objects.{one_scope}

@@ -13,7 +13,8 @@ use Rattle.ba_steps.proofs.Unchanged.{unchanged}
 use Rattle.ba_runs.specs.Runs.{IsFirstWorld, IsRun, goes_on, node_at_start, starts}
 use Rattle.ba_runs.specs.Safety.{IsItsRecords}
 use Rattle.ba_runs.specs.World.{Mode, Occasion, World, WorldNode, delivers, own, ticks}
-use Rattle.ba_runs.specs.WorldSteps.{Stays, Takes, WorldStep, crashes, effect, fails, fails_to_open, happens, nothing, opens_with, opens_without, waits}
+use Rattle.ba_runs.specs.WorldSteps.{Stays, Takes, WorldStep, crashes, effect, fails, fails_to_open, happens, nothing, opens_with}
+use Rattle.ba_runs.specs.WorldSteps.{opens_without, waits}
 use Rattle.ba_runs.proofs.Recorded.{at_or_other, run_keeps}
 
 -- ---- the last step of a list

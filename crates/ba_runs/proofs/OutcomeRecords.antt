@@ -1,5 +1,6 @@
 -- In each run an outcome is in the records of a node exactly where a step recorded it; for the law that outcomes are recorded.
-use Rattle.std.proofs.Common.{◌≡◌, ◌⊎◌, inl, inr, ◌↔◌, ℕ, Bool, true, false, not, List, [], ◌∷◌, Option, None, Some, option_to_list, refl, sym, ap, ◌∙◌, subst, true≢false, arith, if◌then◌else◌}
+use Rattle.std.proofs.Common.{◌≡◌, ◌⊎◌, inl, inr, ◌↔◌, ℕ, Bool, true, false, not, List, [], ◌∷◌, Option, None, Some, option_to_list, refl}
+use Rattle.std.proofs.Common.{sym, ap, ◌∙◌, subst, true≢false, arith, if◌then◌else◌}
 use Rattle.std.specs.List.{list_all}
 use Rattle.ba_core.specs.EndRows.{end_column, end_row, end_rows}
 use Rattle.ba_core.specs.Numbers.{counter_of, id_of}
@@ -34,16 +35,20 @@ use Rattle.ba_steps.specs.declared.inputs.Input.{Input}
 use Rattle.ba_steps.specs.declared.inputs.Input.TheVariants as input
 use Rattle.ba_steps.specs.Fits.{IsIdAt}
 use Rattle.ba_steps.specs.Node.{Among, EndPlace, NodeState, counter, end_place, with_scope}
-use Rattle.ba_steps.specs.Steps.{again_step, fault_step, if_found, node_step, NodeStep, on_end_row, same_end_state, wake_of_end, written_step}
+use Rattle.ba_steps.specs.Steps.{again_step, fault_step, if_found, node_step, NodeStep, on_end_row, same_end_state, wake_of_end}
+use Rattle.ba_steps.specs.Steps.{written_step}
 use Rattle.ba_steps.specs.Ticks.{TickStep, tick_step}
-use Rattle.ba_steps.proofs.Cases.{act_cases, ask_cases, create_cases, end_notice_cases, enrolled_cases, join_cases, on_choose_cases, on_complete_cases, on_decide_cases, on_finish_cases, on_leave_cases, part_notice_cases, refused_cases, register_cases, tick_cases}
+use Rattle.ba_steps.proofs.Cases.{act_cases, ask_cases, create_cases, end_notice_cases, enrolled_cases, join_cases, on_choose_cases}
+use Rattle.ba_steps.proofs.Cases.{on_complete_cases, on_decide_cases, on_finish_cases, on_leave_cases, part_notice_cases, refused_cases}
+use Rattle.ba_steps.proofs.Cases.{register_cases, tick_cases}
 use Rattle.ba_steps.proofs.Members.{among_left, among_right, id_by_number}
 use Rattle.ba_steps.proofs.Places.{end_found}
 use Rattle.ba_runs.specs.Records.{RecordsOutcome, WasRecorded, by_earlier_step, by_last_step}
 use Rattle.ba_runs.specs.Runs.{IsFirstWorld, IsRun, goes_on, starts}
 use Rattle.ba_runs.specs.Safety.{IsAddressed}
 use Rattle.ba_runs.specs.World.{Mode, Occasion, World, WorldNode, answer, delivers, letter, net_of, own, ticks}
-use Rattle.ba_runs.specs.WorldSteps.{BringsInput, IsPossible, Stays, Takes, WorldStep, crashes, effect, fails, fails_to_open, happens, nothing, opens_with, opens_without, waits}
+use Rattle.ba_runs.specs.WorldSteps.{BringsInput, IsPossible, Stays, Takes, WorldStep, crashes, effect, fails, fails_to_open, happens}
+use Rattle.ba_runs.specs.WorldSteps.{nothing, opens_with, opens_without, waits}
 use Rattle.ba_runs.proofs.AddressedRuns.{run_addressed}
 use Rattle.ba_runs.proofs.Goes.{from_append}
 use Rattle.ba_runs.proofs.Owners.{end_id}

@@ -1,6 +1,7 @@
 -- In each run an end keeps the outcome that was recorded for it, and no other is recorded for it afterwards; for the law that outcomes
 -- are recorded.
-use Rattle.std.proofs.Common.{◌≡◌, inl, inr, ℕ, Bool, true, false, not, List, ◌∷◌, map, Option, None, Some, refl, sym, ap, ◌∙◌, subst, true≢false, unwrap_or, if◌then◌else◌}
+use Rattle.std.proofs.Common.{◌≡◌, inl, inr, ℕ, Bool, true, false, not, List, ◌∷◌, map, Option, None, Some, refl, sym, ap, ◌∙◌, subst}
+use Rattle.std.proofs.Common.{true≢false, unwrap_or, if◌then◌else◌}
 use Rattle.std.specs.List.{list_all}
 use Rattle.ba_core.specs.EndRows.{chosen_state, completed_state, end_column, end_row, end_rows, end_tick}
 use Rattle.ba_core.specs.declared.identifiers.Id.{Id}

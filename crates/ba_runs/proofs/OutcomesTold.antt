@@ -1,6 +1,7 @@
 -- In each run each outcome in the bag was told by a participant that did so before, by a step of the run whose record was kept; for
 -- the law that outcomes are told after they were recorded.
-use Rattle.std.proofs.Common.{◌≡◌, ◌⊎◌, inl, inr, ℕ, Bool, true, List, [], ◌∷◌, Option, None, Some, option_to_list, refl, sym, ap, ◌∙◌, subst, if◌then◌else◌}
+use Rattle.std.proofs.Common.{◌≡◌, ◌⊎◌, inl, inr, ℕ, Bool, true, List, [], ◌∷◌, Option, None, Some, option_to_list, refl, sym, ap, ◌∙◌}
+use Rattle.std.proofs.Common.{subst, if◌then◌else◌}
 use Rattle.std.specs.Option.{option_map}
 use Rattle.ba_core.specs.Messages.{notice_code}
 use Rattle.ba_core.specs.PartRows.{part_says}
@@ -20,7 +21,8 @@ use Rattle.ba_runs.specs.Records.{HasActed, IsActed, acted_earlier, acted_last}
 use Rattle.ba_runs.specs.Runs.{IsFirstWorld, IsRun, goes_on, starts}
 use Rattle.ba_runs.specs.Safety.{IsAddressed}
 use Rattle.ba_runs.specs.World.{Mail, Net, Occasion, PartAt, World, WorldNode, answer, delivers, letter, net_of, own, ticks}
-use Rattle.ba_runs.specs.WorldSteps.{Takes, WorldStep, answer_to, crashes, effect, fails, fails_to_open, happens, nothing, opens_with, opens_without, waits}
+use Rattle.ba_runs.specs.WorldSteps.{Takes, WorldStep, answer_to, crashes, effect, fails, fails_to_open, happens, nothing, opens_with}
+use Rattle.ba_runs.specs.WorldSteps.{opens_without, waits}
 use Rattle.ba_runs.proofs.Addressed.{goes}
 use Rattle.ba_runs.proofs.AddressedRuns.{run_addressed}
 use Rattle.ba_runs.proofs.Goes.{from_append}

@@ -1,6 +1,7 @@
 -- What a step of a node makes of what its participants say: what says an outcome afterwards said it before, or the step keeps the
 -- record of it; for the law that outcomes are told after they were recorded.
-use Rattle.std.proofs.Common.{◌≡◌, ◌≢◌, ◌⊎◌, inl, inr, ℕ, Bool, true, false, not, ◌&&◌, ◌||◌, List, [], ◌∷◌, Option, None, Some, refl, sym, ap, ◌∙◌, subst, true≢false}
+use Rattle.std.proofs.Common.{◌≡◌, ◌≢◌, ◌⊎◌, inl, inr, ℕ, Bool, true, false, not, ◌&&◌, ◌||◌, List, [], ◌∷◌, Option, None, Some, refl, sym}
+use Rattle.std.proofs.Common.{ap, ◌∙◌, subst, true≢false}
 use Rattle.std.specs.List.{list_all}
 use Rattle.std.specs.Option.{option_map}
 use Rattle.ba_core.specs.EndRows.{end_tick}
@@ -29,8 +30,10 @@ use Rattle.ba_scope.proofs.Calls.{by_option, led, ticked_part}
 use Rattle.ba_scope.proofs.Lists.{by_test}
 use Rattle.ba_scope.proofs.Tables.{if_leads}
 use Rattle.ba_ends.specs.Ends.{Tick, end_after_notice, end_asking, end_in_state, end_owing, tick_of_end, same_id}
-use Rattle.ba_ends.specs.Parts.{act_when_drained, enrolled_part, part_asking, part_in_state, part_owing, refused_part, state_after_act, tick_of_part}
-use Rattle.ba_scope.specs.Rules.{ScopeStep, choose, complete, decide, expire, finish, is_expired, leave_act, leave_by, part_at_tick, scope_with_end, state_at_tick, tick_up, with_end_changed, with_up, with_up_moved}
+use Rattle.ba_ends.specs.Parts.{act_when_drained, enrolled_part, part_asking, part_in_state, part_owing, refused_part, state_after_act}
+use Rattle.ba_ends.specs.Parts.{tick_of_part}
+use Rattle.ba_scope.specs.Rules.{ScopeStep, choose, complete, decide, expire, finish, is_expired, leave_act, leave_by, part_at_tick}
+use Rattle.ba_scope.specs.Rules.{scope_with_end, state_at_tick, tick_up, with_end_changed, with_up, with_up_moved}
 use Rattle.ba_scope.specs.Scope.{ScopeState, any_failed, is_drained}
 use Rattle.ba_scope.specs.declared.answers.Said.{Said}
 use Rattle.ba_ends.specs.declared.ends.End.{End}
@@ -38,10 +41,15 @@ use Rattle.ba_ends.specs.declared.parts.Part.{Part}
 use Rattle.ba_steps.specs.declared.inputs.Input.{Input}
 use Rattle.ba_steps.specs.declared.inputs.Input.TheVariants as input
 use Rattle.ba_steps.specs.Addresses.{message_number}
-use Rattle.ba_steps.specs.Node.{Among, EndPlace, HasPart, NodeState, PartPlace, counter, end_place, lone, next_id, nowhere, part_in_place_of, scope_in_place_of, scope_with_id, upward, with_lone, with_new_part, with_new_scope, with_part_changed, with_scope}
+use Rattle.ba_steps.specs.Node.{Among, EndPlace, HasPart, NodeState, PartPlace, counter, end_place, lone, next_id, nowhere}
+use Rattle.ba_steps.specs.Node.{part_in_place_of, scope_in_place_of, scope_with_id, upward, with_lone, with_new_part, with_new_scope}
+use Rattle.ba_steps.specs.Node.{with_part_changed, with_scope}
 use Rattle.ba_steps.specs.Steps.{NodeStep, is_registering_state, node_step, same_end_state, same_part_state}
-use Rattle.ba_steps.specs.Ticks.{TickStep, end_letter, letter_step, notice_letter, part_letter, register_letter, tick_at_end, tick_at_part, tick_at_scope, tick_lone, tick_step, tick_upward}
-use Rattle.ba_steps.proofs.Cases.{act_cases, ask_cases, create_cases, end_notice_cases, enrolled_cases, found_cases, join_cases, on_choose_cases, on_complete_cases, on_decide_cases, on_finish_cases, on_leave_cases, part_notice_cases, refused_cases, register_cases, tick_cases, up_acts, up_talks}
+use Rattle.ba_steps.specs.Ticks.{TickStep, end_letter, letter_step, notice_letter, part_letter, register_letter, tick_at_end, tick_at_part}
+use Rattle.ba_steps.specs.Ticks.{tick_at_scope, tick_lone, tick_step, tick_upward}
+use Rattle.ba_steps.proofs.Cases.{act_cases, ask_cases, create_cases, end_notice_cases, enrolled_cases, found_cases, join_cases}
+use Rattle.ba_steps.proofs.Cases.{on_choose_cases, on_complete_cases, on_decide_cases, on_finish_cases, on_leave_cases, part_notice_cases}
+use Rattle.ba_steps.proofs.Cases.{refused_cases, register_cases, tick_cases, up_acts, up_talks}
 use Rattle.ba_steps.proofs.Places.{Stands, place_cases, scope_found, stands_part}
 use Rattle.ba_scope.proofs.ScopeCases.{choose_cases, complete_cases, decide_cases, finish_cases, leave_cases, neither_left, neither_right}
 use Rattle.ba_runs.specs.Records.{IsActed, by_act, by_tick, outcome_of}

@@ -1,5 +1,6 @@
 -- What is possible can happen, what is pending can be kept, and there is a world to start from; for the law of that name.
-use Rattle.std.proofs.Common.{◌≡◌, ◌≢◌, ◌⊎◌, ℕ, ◌≤◌, ◌<◌, ◌^◌, Bool, true, false, List, [], ◌++◌, Option, None, Some, IfSome, nat_eq, refl, ap, subst, if◌then◌else◌}
+use Rattle.std.proofs.Common.{◌≡◌, ◌≢◌, ◌⊎◌, ℕ, ◌≤◌, ◌<◌, ◌^◌, Bool, true, false, List, [], ◌++◌, Option, None, Some, IfSome, nat_eq, refl}
+use Rattle.std.proofs.Common.{ap, subst, if◌then◌else◌}
 use Rattle.std.specs.Option.{option_to_list}
 use Rattle.std.proofs.lemmas.Bool.{eq-eqb, ne_eqb}
 use Rattle.ba_record.specs.Coding.{InRange}
@@ -8,7 +9,8 @@ use Rattle.ba_steps.specs.Fits.{HasSpareCounters}
 use Rattle.ba_runs.specs.Runs.{IsFirstWorld, node_at_start}
 use Rattle.ba_runs.specs.Safety.{IsItsRecords}
 use Rattle.ba_runs.specs.World.{Mail, Mode, Occasion, World, WorldNode, is_closed, is_down, is_up, net_of}
-use Rattle.ba_runs.specs.WorldSteps.{IsPossible, MayStillBeTaken, Stays, Takes, WorldStep, crashes, effect, fails, fails_to_open, happens, opens_with, opens_without}
+use Rattle.ba_runs.specs.WorldSteps.{IsPossible, MayStillBeTaken, Stays, Takes, WorldStep, crashes, effect, fails, fails_to_open, happens}
+use Rattle.ba_runs.specs.WorldSteps.{opens_with, opens_without}
 use Rattle.ba_runs.proofs.Tests.{if_false, if_true}
 
 -- the world with another node in the place of the one with this number, and with this bag

@@ -9,7 +9,8 @@ use Rattle.ba_steps.specs.Node.{new_node}
 use Rattle.ba_runs.specs.Runs.{IsRun, IsFirstWorld, goes_on, starts}
 use Rattle.ba_runs.specs.Safety.{FitsAt, IsItsRecords}
 use Rattle.ba_runs.specs.World.{Mode, Occasion, World, WorldNode, net_of}
-use Rattle.ba_runs.specs.WorldSteps.{MayStillBeTaken, Stays, Takes, WorldStep, crashes, fails, fails_to_open, happens, nothing, opens_with, opens_without, waits}
+use Rattle.ba_runs.specs.WorldSteps.{MayStillBeTaken, Stays, Takes, WorldStep, crashes, fails, fails_to_open, happens, nothing, opens_with}
+use Rattle.ba_runs.specs.WorldSteps.{opens_without, waits}
 use Rattle.ba_runs.proofs.Nets.{stays_net}
 use Rattle.ba_runs.proofs.RunLemmas.{Grows, grows_same, moved_fits, moved_grows, pending_stays, replay_goes_on}
 

@@ -30,9 +30,13 @@ use Rattle.ba_ends.specs.declared.parts.Part.{Part}
 use Rattle.ba_steps.specs.declared.answers.Reply.{Reply}
 use Rattle.ba_steps.specs.declared.answers.Reply.TheVariants as reply
 use Rattle.ba_steps.specs.Addresses.{coordinator_of}
-use Rattle.ba_steps.specs.Node.{Among, HasPart, NodeState, PartPlace, end_place, lone, next_id, nowhere, part_place, scope_in_place_of, scope_with_id, upward, with_scope}
-use Rattle.ba_steps.specs.Steps.{NodeStep, accepted_step, again_step, enrol_unless, enrolled_before, fault_step, if_found, is_get_status, is_registering_state, is_status, on_end_asked, on_end_row, on_lone_row, on_notice, on_part_asked, on_part_heard, on_place_notice, on_register, on_up_row, same_end_state, same_part_state, same_protocol}
-use Rattle.ba_steps.specs.Ticks.{TickStep, end_letter, letter_step, notice_letter, part_letter, register_letter, tick_at_end, tick_at_part, tick_at_scope, tick_lone, tick_step, tick_upward}
+use Rattle.ba_steps.specs.Node.{Among, HasPart, NodeState, PartPlace, end_place, lone, next_id, nowhere, part_place, scope_in_place_of}
+use Rattle.ba_steps.specs.Node.{scope_with_id, upward, with_scope}
+use Rattle.ba_steps.specs.Steps.{NodeStep, accepted_step, again_step, enrol_unless, enrolled_before, fault_step, if_found, is_get_status}
+use Rattle.ba_steps.specs.Steps.{is_registering_state, is_status, on_end_asked, on_end_row, on_lone_row, on_notice, on_part_asked}
+use Rattle.ba_steps.specs.Steps.{on_part_heard, on_place_notice, on_register, on_up_row, same_end_state, same_part_state, same_protocol}
+use Rattle.ba_steps.specs.Ticks.{TickStep, end_letter, letter_step, notice_letter, part_letter, register_letter, tick_at_end, tick_at_part}
+use Rattle.ba_steps.specs.Ticks.{tick_at_scope, tick_lone, tick_step, tick_upward}
 use Rattle.ba_steps.proofs.Cases.{found_cases}
 use Rattle.ba_steps.proofs.Members.{among_map, among_right, number_is_same}
 use Rattle.ba_steps.proofs.Places.{end_found, first_is, place_cases, scope_found}

@@ -1,5 +1,6 @@
 -- What a step says, on each link of a net; for the law that each link moves by its table.
-use Rattle.std.proofs.Common.{◌≡◌, ◌≢◌, inl, inr, ℕ, ◌+◌, ◌*◌, ◌/◌, ◌%◌, ◌^◌, ◌<◌, Bool, true, false, Option, None, Some, arith, refl, sym, ap, ◌∙◌, subst, true≢false, if◌then◌else◌}
+use Rattle.std.proofs.Common.{◌≡◌, ◌≢◌, inl, inr, ℕ, ◌+◌, ◌*◌, ◌/◌, ◌%◌, ◌^◌, ◌<◌, Bool, true, false, Option, None, Some, arith, refl, sym}
+use Rattle.std.proofs.Common.{ap, ◌∙◌, subst, true≢false, if◌then◌else◌}
 use Rattle.std.specs.Option.{option_and_then, option_map}
 use Rattle.ba_core.specs.Messages.{notice_code}
 use Rattle.ba_core.specs.declared.identifiers.Id.{Id}
@@ -32,14 +33,17 @@ use Rattle.ba_steps.proofs.Members.{id_by_number}
 use Rattle.ba_steps.proofs.Objects.{no_end_is_a_part, one_part}
 use Rattle.ba_runs.specs.Links.{IsLink, answered_by, on_link, said_down, said_up}
 use Rattle.ba_runs.specs.Safety.{IsAddressed, MailFits, of_end, of_part, of_register}
-use Rattle.ba_runs.specs.World.{Mail, Net, Occasion, PartAt, ScopeAt, answer, delivers, letter, node_at, own, participant_at, registration_at, ticks}
+use Rattle.ba_runs.specs.World.{Mail, Net, Occasion, PartAt, ScopeAt, answer, delivers, letter, node_at, own, participant_at}
+use Rattle.ba_runs.specs.World.{registration_at, ticks}
 use Rattle.ba_runs.specs.WorldSteps.{BringsInput, IsPossible, answer_to, effect}
 use Rattle.ba_runs.proofs.Heard.{by_address, by_number, by_sender, off_number}
 use Rattle.ba_runs.proofs.Letters.{coordinator_is}
 use Rattle.ba_runs.proofs.MailLemmas.{no_answer}
-use Rattle.ba_runs.proofs.Owners.{end_id, fits_here, id_has_text, id_small, one_endpoint, one_node, one_number, one_registration, owner, part_id, scope_id, sender_is}
+use Rattle.ba_runs.proofs.Owners.{end_id, fits_here, id_has_text, id_small, one_endpoint, one_node, one_number, one_registration, owner}
+use Rattle.ba_runs.proofs.Owners.{part_id, scope_id, sender_is}
 use Rattle.ba_runs.proofs.Senders.{IsSenderOf, no_register, sender}
-use Rattle.ba_runs.proofs.Strides.{Sends, Speech, answer_of, answer_said, end_writes, part_registers, part_writes, said_by, said_to, scope_answers, silent}
+use Rattle.ba_runs.proofs.Strides.{Sends, Speech, answer_of, answer_said, end_writes, part_registers, part_writes, said_by, said_to}
+use Rattle.ba_runs.proofs.Strides.{scope_answers, silent}
 use Rattle.ba_runs.proofs.Tests.{if_false, test_cases}
 
 -- ---- who speaks

@@ -1,5 +1,6 @@
 -- Each step of a node keeps who its objects are, but for what its input brings; for the law that endpoints lead where they should.
-use Rattle.std.proofs.Common.{◌≡◌, inl, inr, ℕ, Bool, true, false, ◌||◌, map, Option, None, Some, is_none, is_some, refl, sym, ap, ◌∙◌, subst, true≢false, if◌then◌else◌}
+use Rattle.std.proofs.Common.{◌≡◌, inl, inr, ℕ, Bool, true, false, ◌||◌, map, Option, None, Some, is_none, is_some, refl, sym, ap, ◌∙◌}
+use Rattle.std.proofs.Common.{subst, true≢false, if◌then◌else◌}
 use Rattle.std.proofs.lemmas.Bool.{and_parts}
 use Rattle.ba_core.specs.EndRows.{end_row, end_tick}
 use Rattle.ba_core.specs.PartRows.{is_part_state}
@@ -19,10 +20,14 @@ use Rattle.ba_core.specs.declared.states.PState.TheVariants as part
 use Rattle.ba_message.specs.declared.endpoints.Epr.{Epr}
 use Rattle.ba_scope.proofs.Calls.{by_option, registering_is, ticked_part}
 use Rattle.ba_scope.proofs.Lists.{by_test}
-use Rattle.ba_ends.specs.Parts.{part_fits, enrolled_part, part_asking, part_in_state, part_owing, refused_part, tick_of_part, verdict_on_the_way, has_no_coordinator}
+use Rattle.ba_ends.specs.Parts.{part_fits, enrolled_part, part_asking, part_in_state, part_owing, refused_part, tick_of_part}
+use Rattle.ba_ends.specs.Parts.{verdict_on_the_way, has_no_coordinator}
 use Rattle.ba_scope.specs.Fits.{up_fits}
-use Rattle.ba_ends.specs.Ends.{Tick, end_after_notice, end_after_row, end_asking, end_in_state, end_owing, end_with_verdict, end_with_verdict_if_none, tick_of_end, same_id}
-use Rattle.ba_scope.specs.Rules.{ScopeStep, changed_at, choose, complete, decide, end_with_verdict_if_any, expire, finish, is_expired, leave_by, part_at_tick, scope_with_end, state_at_tick, tick_up, with_end_changed, with_up, with_up_moved, word_for}
+use Rattle.ba_ends.specs.Ends.{Tick, end_after_notice, end_after_row, end_asking, end_in_state, end_owing, end_with_verdict}
+use Rattle.ba_ends.specs.Ends.{end_with_verdict_if_none, tick_of_end, same_id}
+use Rattle.ba_scope.specs.Rules.{ScopeStep, changed_at, choose, complete, decide, end_with_verdict_if_any, expire, finish, is_expired}
+use Rattle.ba_scope.specs.Rules.{leave_by, part_at_tick, scope_with_end, state_at_tick, tick_up, with_end_changed, with_up, with_up_moved}
+use Rattle.ba_scope.specs.Rules.{word_for}
 use Rattle.ba_scope.specs.Scope.{ScopeState}
 use Rattle.ba_scope.specs.declared.answers.Said.{Said}
 use Rattle.ba_ends.specs.declared.ends.End.{End}
@@ -33,11 +38,14 @@ use Rattle.ba_steps.specs.Fits.{NodeFits}
 use Rattle.ba_steps.specs.Node.{EndPlace, HasPart, NodeState, next_id, with_scope}
 use Rattle.ba_steps.specs.Steps.{NodeStep, is_of_kind, is_registering_state, node_step}
 use Rattle.ba_steps.specs.Ticks.{TickStep, tick_step}
-use Rattle.ba_steps.proofs.Cases.{act_cases, ask_cases, create_cases, end_notice_cases, enrolled_cases, join_cases, on_choose_cases, on_complete_cases, on_decide_cases, on_finish_cases, on_leave_cases, part_notice_cases, refused_cases, register_cases, tick_cases}
+use Rattle.ba_steps.proofs.Cases.{act_cases, ask_cases, create_cases, end_notice_cases, enrolled_cases, join_cases, on_choose_cases}
+use Rattle.ba_steps.proofs.Cases.{on_complete_cases, on_decide_cases, on_finish_cases, on_leave_cases, part_notice_cases, refused_cases}
+use Rattle.ba_steps.proofs.Cases.{register_cases, tick_cases}
 use Rattle.ba_steps.proofs.Objects.{lone_fits, scope_fits}
 use Rattle.ba_steps.proofs.Places.{EndStands, scope_found, stands_is, stands_part}
 use Rattle.ba_scope.proofs.ScopeCases.{choose_cases, complete_cases, decide_cases, finish_cases, leave_cases}
-use Rattle.ba_runs.proofs.Goes.{NodeGoes, SameEnd, SamePart, ScopeGoes, ends_map, ends_push, ends_stay, itself, lone_goes, new_part_goes, new_scope_goes, part_goes, same_end, same_part, scope_goes, scope_stays, some_same, up_changes, up_stays}
+use Rattle.ba_runs.proofs.Goes.{NodeGoes, SameEnd, SamePart, ScopeGoes, ends_map, ends_push, ends_stay, itself, lone_goes, new_part_goes}
+use Rattle.ba_runs.proofs.Goes.{new_scope_goes, part_goes, same_end, same_part, scope_goes, scope_stays, some_same, up_changes, up_stays}
 
 -- ---- changed ends
 

@@ -1,5 +1,6 @@
 -- Strides of the two states of a link are at most two moves of the link; for the law that each link moves by its table.
-use Rattle.std.proofs.Common.{◌≡◌, inl, inr, Bool, true, false, List, [], ◌++◌, Option, None, Some, IfSome, Contains, refl, sym, ap, ◌∙◌, subst, append-nil, if◌then◌else◌}
+use Rattle.std.proofs.Common.{◌≡◌, inl, inr, Bool, true, false, List, [], ◌++◌, Option, None, Some, IfSome, Contains, refl, sym, ap, ◌∙◌}
+use Rattle.std.proofs.Common.{subst, append-nil, if◌then◌else◌}
 use Rattle.std.specs.Option.{option_to_list}
 use Rattle.ba_link.specs.Link.{Link, LinkState, LinkStep, Message, Move, heard_by, moved_link}
 use Rattle.ba_runs.specs.Links.{StepsByTwo}

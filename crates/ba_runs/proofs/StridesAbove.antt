@@ -1,6 +1,7 @@
 -- What becomes of the link of a participant as it changes: it is told where it stands, hears a notice, acts, ticks, or has a flag
 -- set; for the law that each step of a node is moves of its links.
-use Rattle.std.proofs.Common.{◌≡◌, inl, inr, ℕ, Bool, true, false, not, ◌||◌, Option, None, Some, unwrap_or, refl, sym, ap, ◌∙◌, subst, true≢false, IfSome}
+use Rattle.std.proofs.Common.{◌≡◌, inl, inr, ℕ, Bool, true, false, not, ◌||◌, Option, None, Some, unwrap_or, refl, sym, ap, ◌∙◌, subst}
+use Rattle.std.proofs.Common.{true≢false, IfSome}
 use Rattle.std.specs.List.{list_all}
 use Rattle.std.specs.Option.{option_map}
 use Rattle.ba_core.specs.Messages.{part_name}
@@ -16,7 +17,8 @@ use Rattle.ba_core.specs.declared.rows.PRow.TheVariants as prow
 use Rattle.ba_core.specs.declared.states.How.TheVariants.{Refused}
 use Rattle.ba_core.specs.declared.states.PState.{PState}
 use Rattle.ba_core.specs.declared.states.PState.TheVariants as part
-use Rattle.ba_link.specs.Link.{LinkState, Message, Move, heard_by, acted_link, acts, asks_end, is_enrolled, is_refused, moved_link, part_message, part_moved_link, part_receives, part_ticks, register, tells_end, to_end, told_link}
+use Rattle.ba_link.specs.Link.{LinkState, Message, Move, heard_by, acted_link, acts, asks_end, is_enrolled, is_refused, moved_link}
+use Rattle.ba_link.specs.Link.{part_message, part_moved_link, part_receives, part_ticks, register, tells_end, to_end, told_link}
 use Rattle.ba_message.specs.declared.endpoints.Epr.{Epr}
 use Rattle.ba_link.proofs.Everywhere.{part_passes, parts, protocol_passes}
 use Rattle.ba_scope.proofs.Calls.{led, registering_is, ticked_part}
@@ -34,7 +36,8 @@ use Rattle.ba_steps.specs.Steps.{is_registering_state, refusal_number}
 use Rattle.ba_steps.specs.Ticks.{part_letter}
 use Rattle.ba_runs.specs.Links.{link_state}
 use Rattle.ba_runs.proofs.LinkMoves.{Quiet, moves_quiet, stays_quiet}
-use Rattle.ba_runs.proofs.Strides.{Above, PartHears, SaysAtMost, Sends, Speech, Strides, moves, part_registers, part_writes, said_by, silent, speaks_last, stays}
+use Rattle.ba_runs.proofs.Strides.{Above, PartHears, SaysAtMost, Sends, Speech, Strides, moves, part_registers, part_writes, said_by}
+use Rattle.ba_runs.proofs.Strides.{silent, speaks_last, stays}
 
 -- an act leads to a state in which a participant isn't at work any more
 pub acted_closes : (protocol : Protocol) (p : PState) (a : Act) (next : PState) → acted_state protocol p a ≡ Some next

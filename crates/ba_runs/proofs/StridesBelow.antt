@@ -1,6 +1,7 @@
 -- What becomes of the links of a scope's ends as the scope changes: it may be sealed, a verdict may be set on each end, one end may
 -- change, or a new one is enrolled; for the law that each step of a node is moves of its links.
-use Rattle.std.proofs.Common.{◌≡◌, inl, inr, ◌≤◌, Bool, true, false, List, [], ◌∷◌, length, map, Option, None, Some, IfSome, unwrap_or, refl, sym, ap, ◌∙◌, subst, arith, true≢false, length-append}
+use Rattle.std.proofs.Common.{◌≡◌, inl, inr, ◌≤◌, Bool, true, false, List, [], ◌∷◌, length, map, Option, None, Some, IfSome, unwrap_or}
+use Rattle.std.proofs.Common.{refl, sym, ap, ◌∙◌, subst, arith, true≢false, length-append}
 use Rattle.std.specs.Option.{option_map}
 use Rattle.ba_core.specs.EndRows.{chosen_state, completed_state, end_row, end_tick}
 use Rattle.ba_core.specs.Messages.{end_name}
@@ -14,7 +15,9 @@ use Rattle.ba_core.specs.declared.rows.CRow.TheVariants as crow
 use Rattle.ba_core.specs.declared.states.CState.{CState}
 use Rattle.ba_core.specs.declared.states.PState.{PState}
 use Rattle.ba_link.specs.Link as link
-use Rattle.ba_link.specs.Link.{LinkState, Message, asks_part, chooses, chosen_link, completed_link, completes, end_moved_link, end_receives, end_ticks, enrolled_link, enrols, moved_link, register, registered, seals, settled_state, tells_part, to_end, to_part, with_end}
+use Rattle.ba_link.specs.Link.{LinkState, Message, asks_part, chooses, chosen_link, completed_link, completes, end_moved_link, end_receives}
+use Rattle.ba_link.specs.Link.{end_ticks, enrolled_link, enrols, moved_link, register, registered, seals, settled_state, tells_part, to_end}
+use Rattle.ba_link.specs.Link.{to_part, with_end}
 use Rattle.ba_message.specs.Endpoints.{same_epr}
 use Rattle.ba_message.specs.declared.endpoints.Epr.{Epr}
 use Rattle.ba_message.proofs.FitTests.{endpoint_itself}
@@ -25,7 +28,8 @@ use Rattle.ba_scope.specs.Scope.{ScopeState, takes_no_more}
 use Rattle.ba_ends.specs.declared.ends.End.{End}
 use Rattle.ba_ends.specs.declared.parts.Part.{Part}
 use Rattle.ba_runs.specs.Links.{link_state, side_of}
-use Rattle.ba_runs.proofs.LinkMoves.{KeepsOwner, Quiet, at_keeps_owner, end_of_map, end_of_new, end_of_others, link_with, moves_quiet, stays_quiet, takes_as_before, takes_no_less}
+use Rattle.ba_runs.proofs.LinkMoves.{KeepsOwner, Quiet, at_keeps_owner, end_of_map, end_of_new, end_of_others, link_with, moves_quiet}
+use Rattle.ba_runs.proofs.LinkMoves.{stays_quiet, takes_as_before, takes_no_less}
 use Rattle.ba_runs.proofs.Strides.{SaysAtMost, Strides, moves, speaks_first, speaks_last, stays}
 
 -- ---- what moves an end

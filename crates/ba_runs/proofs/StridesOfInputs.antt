@@ -1,5 +1,6 @@
 -- What each input of a node is to the links of its objects; for the law that each step of a node is moves of its links.
-use Rattle.std.proofs.Common.{◌≡◌, ◌≢◌, inr, ℕ, Bool, true, false, ◌||◌, Option, None, Some, refl, sym, ap, ◌∙◌, subst, true≢false, if◌then◌else◌}
+use Rattle.std.proofs.Common.{◌≡◌, ◌≢◌, inr, ℕ, Bool, true, false, ◌||◌, Option, None, Some, refl, sym, ap, ◌∙◌, subst, true≢false}
+use Rattle.std.proofs.Common.{if◌then◌else◌}
 use Rattle.std.specs.Option.{option_map}
 use Rattle.ba_core.specs.declared.codes.Code.{Code}
 use Rattle.ba_core.specs.declared.codes.Code.TheVariants as code
@@ -7,7 +8,8 @@ use Rattle.ba_core.specs.declared.identifiers.Id.{Id}
 use Rattle.ba_core.specs.declared.protocols.Protocol.{Protocol}
 use Rattle.ba_core.specs.declared.protocols.Side.TheVariants.{Coordinator, Participant}
 use Rattle.ba_core.specs.declared.states.PState.{PState}
-use Rattle.ba_link.specs.Link.{Message, answers_again, at_end, refused_for_good, refused_for_now, refused_link, refuses_for_good, refuses_for_now, registered}
+use Rattle.ba_link.specs.Link.{Message, answers_again, at_end, refused_for_good, refused_for_now, refused_link, refuses_for_good}
+use Rattle.ba_link.specs.Link.{refuses_for_now, registered}
 use Rattle.ba_message.specs.Endpoints.{same_epr}
 use Rattle.ba_message.specs.declared.endpoints.Epr.{Epr}
 use Rattle.ba_message.specs.declared.messages.Message.TheVariants as message
@@ -17,7 +19,8 @@ use Rattle.ba_scope.proofs.Lists.{by_test}
 use Rattle.ba_scope.proofs.Tables.{is_open_state}
 use Rattle.ba_ends.specs.Ends.{end_after_notice, end_asking, end_owing, end_of, end_with_id, same_id}
 use Rattle.ba_ends.specs.Parts.{enrolled_part, part_asking, part_in_state, part_owing, refused_part, is_registering}
-use Rattle.ba_scope.specs.Rules.{choose, complete, decide, enrol_refusal, finish, leave_by, scope_with_end, with_end_changed, with_up, with_up_moved}
+use Rattle.ba_scope.specs.Rules.{choose, complete, decide, enrol_refusal, finish, leave_by, scope_with_end, with_end_changed, with_up}
+use Rattle.ba_scope.specs.Rules.{with_up_moved}
 use Rattle.ba_scope.specs.Scope.{ScopeState, is_full, is_sealed, takes_no_more}
 use Rattle.ba_scope.specs.declared.answers.EnrolFault.TheVariants.{NotYetEnrolled, Sealed, Full}
 use Rattle.ba_ends.specs.declared.ends.End.{End}
@@ -30,16 +33,21 @@ use Rattle.ba_steps.specs.Addresses.{coordinator_of}
 use Rattle.ba_steps.specs.Fits.{NodeFits}
 use Rattle.ba_steps.specs.Node.{Among, NodeState, PartPlace, lone, next_id, nowhere, scope_with_id, upward, with_part_changed, with_scope}
 use Rattle.ba_steps.specs.Steps.{node_step, refusal_number}
-use Rattle.ba_steps.proofs.Cases.{AnsweredOnly, Registers, act_cases, ask_cases, create_cases, end_notice_cases, enrolled_already, enrolled_cases, for_good, for_now, join_cases, no_protocol, on_choose_cases, on_complete_cases, on_decide_cases, on_finish_cases, on_leave_cases, part_notice_cases, refused_cases, register_answers}
+use Rattle.ba_steps.proofs.Cases.{AnsweredOnly, Registers, act_cases, ask_cases, create_cases, end_notice_cases, enrolled_already}
+use Rattle.ba_steps.proofs.Cases.{enrolled_cases, for_good, for_now, join_cases, no_protocol, on_choose_cases, on_complete_cases}
+use Rattle.ba_steps.proofs.Cases.{on_decide_cases, on_finish_cases, on_leave_cases, part_notice_cases, refused_cases, register_answers}
 use Rattle.ba_steps.proofs.Members.{same_id_is}
 use Rattle.ba_steps.proofs.Objects.{one_end, one_scope, scope_fits}
 use Rattle.ba_steps.proofs.Places.{Stands, first_is, scope_found, stands_is}
 use Rattle.ba_runs.specs.Links.{answered_by, link_state, side_of}
 use Rattle.ba_runs.proofs.Goes.{some_same}
-use Rattle.ba_runs.proofs.Strides.{Above, Below, Change, EndHears, InputChanges, IsMade, IsSaidAt, NamesItsProtocol, Speech, Strides, answer_said, made_lone, made_scope, moves, no_object, one_lone, one_scope as one_scope_changes, scope_answers, silent, stays, up_strides_stay}
+use Rattle.ba_runs.proofs.Strides.{Above, Below, Change, EndHears, InputChanges, IsMade, IsSaidAt, NamesItsProtocol, Speech, Strides}
+use Rattle.ba_runs.proofs.Strides.{answer_said, made_lone, made_scope, moves, no_object, one_lone, one_scope as one_scope_changes}
+use Rattle.ba_runs.proofs.Strides.{scope_answers, silent, stays, up_strides_stay}
 use Rattle.ba_runs.proofs.StridesAbove.{acted_above, enrolled_above, notice_above, refused_above, same_above}
 use Rattle.ba_runs.proofs.StridesBelow.{new_end_elsewhere, new_end_here}
-use Rattle.ba_runs.proofs.StridesOfScopes.{ScopeStrides, choose_strides, complete_strides, decide_strides, end_notice_strides, finish_strides, flag_strides, leave_strides, up_notice_strides, up_strides}
+use Rattle.ba_runs.proofs.StridesOfScopes.{ScopeStrides, choose_strides, complete_strides, decide_strides, end_notice_strides}
+use Rattle.ba_runs.proofs.StridesOfScopes.{finish_strides, flag_strides, leave_strides, up_notice_strides, up_strides}
 
 -- ---- changes of a node
 

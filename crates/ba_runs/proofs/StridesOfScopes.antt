@@ -1,6 +1,7 @@
 -- What each rule of a scope is to the links of its ends and to that of its upward part; for the law that each step of a node is
 -- moves of its links.
-use Rattle.std.proofs.Common.{◌≡◌, ℕ, ◌≤◌, Bool, true, false, not, ◌&&◌, List, length, map, Option, None, Some, IfSome, is_none, is_some, refl, sym, ap, ◌∙◌, subst, arith, true≢false}
+use Rattle.std.proofs.Common.{◌≡◌, ℕ, ◌≤◌, Bool, true, false, not, ◌&&◌, List, length, map, Option, None, Some, IfSome, is_none, is_some}
+use Rattle.std.proofs.Common.{refl, sym, ap, ◌∙◌, subst, arith, true≢false}
 use Rattle.std.specs.List.{AllByRecursion, list_all}
 use Rattle.std.proofs.lemmas.Bool.{and_parts}
 use Rattle.std.proofs.lemmas.List.{length-map}
@@ -28,12 +29,15 @@ use Rattle.ba_message.specs.declared.endpoints.Epr.{Epr}
 use Rattle.ba_scope.proofs.Kept.{above_at, after_who, ends_below, verdict_below}
 use Rattle.ba_scope.proofs.Lists.{by_test, some_branch, word_is}
 use Rattle.ba_scope.proofs.Sealed.{stays_sealed}
-use Rattle.ba_scope.proofs.Tables.{above_passes, allows, each_decision_allows, each_handing_allows, end_passes, for_kinds, handing_allows, handings_allow, is_open_state, row_known, row_leads, rows_are_known, rows_lead, undecided}
+use Rattle.ba_scope.proofs.Tables.{above_passes, allows, each_decision_allows, each_handing_allows, end_passes, for_kinds, handing_allows}
+use Rattle.ba_scope.proofs.Tables.{handings_allow, is_open_state, row_known, row_leads, rows_are_known, rows_lead, undecided}
 use Rattle.ba_scope.specs.Calls.{by_up_receive}
 use Rattle.ba_scope.specs.Fits.{Above as Seen, ScopeFits, above, end_fits, up_state, verdict_fits_scope, state_fits_above}
-use Rattle.ba_ends.specs.Ends.{end_after_notice, end_in_state, end_with_verdict, end_with_verdict_if_none, is_ready_for, end_of, end_with_id, same_id}
+use Rattle.ba_ends.specs.Ends.{end_after_notice, end_in_state, end_with_verdict, end_with_verdict_if_none, is_ready_for, end_of}
+use Rattle.ba_ends.specs.Ends.{end_with_id, same_id}
 use Rattle.ba_ends.specs.Parts.{part_in_state, state_after_row, verdict_on_the_way}
-use Rattle.ba_scope.specs.Rules.{ScopeStep, choose, complete, decide, end_with_verdict_if_any, expire, finish, is_expired, leave_act, leave_by, own_choice, scope_with_verdict, up_receive, with_end_changed, with_up, with_up_moved, word_for}
+use Rattle.ba_scope.specs.Rules.{ScopeStep, choose, complete, decide, end_with_verdict_if_any, expire, finish, is_expired, leave_act}
+use Rattle.ba_scope.specs.Rules.{leave_by, own_choice, scope_with_verdict, up_receive, with_end_changed, with_up, with_up_moved, word_for}
 use Rattle.ba_scope.specs.Scope.{ScopeState, is_sealed, takes_no_more}
 use Rattle.ba_scope.specs.declared.answers.Said.{Said}
 use Rattle.ba_ends.specs.declared.ends.End.{End}
@@ -46,9 +50,11 @@ use Rattle.ba_steps.proofs.Places.{first_is}
 use Rattle.ba_scope.proofs.ScopeCases.{choose_cases, complete_cases, decide_cases, finish_cases, leave_cases}
 use Rattle.ba_runs.specs.Links.{side_of}
 use Rattle.ba_runs.proofs.LinkMoves.{KeepsOwner, Quiet, link_with, sealed_above, stays_quiet, takes_no_less}
-use Rattle.ba_runs.proofs.Strides.{Above, Below, EndHears, IsOfItsProtocol, Speech, Strides, UpStrides, silent, stays, up_strides_change, up_strides_stay}
+use Rattle.ba_runs.proofs.Strides.{Above, Below, EndHears, IsOfItsProtocol, Speech, Strides, UpStrides, silent, stays, up_strides_change}
+use Rattle.ba_runs.proofs.Strides.{up_strides_stay}
 use Rattle.ba_runs.proofs.StridesAbove.{acted_above, acted_closes, notice_above}
-use Rattle.ba_runs.proofs.StridesBelow.{MayBeSet, completion_asked, each_quietly, notice_heard, one_end_changes, only_sealed, quietly, verdict_set}
+use Rattle.ba_runs.proofs.StridesBelow.{MayBeSet, completion_asked, each_quietly, notice_heard, one_end_changes, only_sealed, quietly}
+use Rattle.ba_runs.proofs.StridesBelow.{verdict_set}
 
 -- ---- a scope's step
 

@@ -1,6 +1,7 @@
 -- What each tick of a node is to the links of its objects, and who writes its letter; for the law that each step of a node is moves
 -- of its links.
-use Rattle.std.proofs.Common.{◌≡◌, inl, inr, ℕ, Bool, true, false, not, ◌&&◌, ◌||◌, List, [], ◌∷◌, map, nat_eq, slice_get, Option, None, Some, refl, sym, ap, ◌∙◌, subst, arith, true≢false, if◌then◌else◌}
+use Rattle.std.proofs.Common.{◌≡◌, inl, inr, ℕ, Bool, true, false, not, ◌&&◌, ◌||◌, List, [], ◌∷◌, map, nat_eq, slice_get, Option, None}
+use Rattle.std.proofs.Common.{Some, refl, sym, ap, ◌∙◌, subst, arith, true≢false, if◌then◌else◌}
 use Rattle.std.specs.Option.{option_map}
 use Rattle.std.proofs.lemmas.Bool.Decides.{nat_tests}
 use Rattle.ba_core.specs.EndRows.{end_tick}
@@ -43,8 +44,11 @@ use Rattle.ba_runs.specs.Links.{link_state}
 use Rattle.ba_runs.proofs.Goes.{some_same}
 use Rattle.ba_runs.proofs.LinkMoves.{KeepsOwner, takes_no_less}
 use Rattle.ba_runs.proofs.Owners.{one_participant}
-use Rattle.ba_runs.proofs.Strides.{Above, Below, Change, EndHears, IsSaidAt, IsSaidBy, SaidAgain, SaysAtMost, Sends, Speech, Strides, TickChanges, end_writes, no_object, one_lone, one_scope, part_registers, said_by, said_to, silent, up_strides_change, up_strides_stay}
-use Rattle.ba_runs.proofs.StridesAbove.{part_letter_sent, part_speech, registers_above, says_above, speech_to, ticks_above, up_says_again, up_ticks_above}
+use Rattle.ba_runs.proofs.Strides.{Above, Below, Change, EndHears, IsSaidAt, IsSaidBy, SaidAgain, SaysAtMost, Sends, Speech, Strides}
+use Rattle.ba_runs.proofs.Strides.{TickChanges, end_writes, no_object, one_lone, one_scope, part_registers, said_by, said_to, silent}
+use Rattle.ba_runs.proofs.Strides.{up_strides_change, up_strides_stay}
+use Rattle.ba_runs.proofs.StridesAbove.{part_letter_sent, part_speech, registers_above, says_above, speech_to, ticks_above, up_says_again}
+use Rattle.ba_runs.proofs.StridesAbove.{up_ticks_above}
 use Rattle.ba_runs.proofs.StridesBelow.{end_ticked, one_end_changes, only_sealed}
 use Rattle.ba_runs.proofs.StridesOfInputs.{scope_changes}
 use Rattle.ba_runs.proofs.StridesOfScopes.{expire_strides, found_end}

@@ -9,14 +9,17 @@ use Rattle.ba_scope.specs.Scope.{ScopeState}
 use Rattle.ba_ends.specs.declared.ends.End.{End}
 use Rattle.ba_ends.specs.declared.parts.Part.{Part}
 use Rattle.ba_steps.specs.Fits.{NodeFits}
-use Rattle.ba_steps.specs.Node.{Among, HasPart, NodeState, next_id, part_in_place_of, scope_in_place_of, with_lone, with_new_part, with_new_scope, with_scope}
+use Rattle.ba_steps.specs.Node.{Among, HasPart, NodeState, next_id, part_in_place_of, scope_in_place_of, with_lone, with_new_part}
+use Rattle.ba_steps.specs.Node.{with_new_scope, with_scope}
 use Rattle.ba_steps.specs.declared.answers.Reply.{Reply}
 use Rattle.ba_steps.specs.declared.inputs.Input.{Input}
 use Rattle.ba_steps.proofs.Members.{is_other, same_by_number, same_id_is}
 use Rattle.ba_steps.proofs.Objects.{no_lone_is_up, one_end, one_part, one_scope, one_scope_above}
 use Rattle.ba_runs.proofs.Goes.{from_append, from_map, some_same}
 use Rattle.ba_runs.proofs.Said.{IsSpeaker, SpeaksAt, SpeaksBy, SpeechStands}
-use Rattle.ba_runs.proofs.Strides.{Above, Below, Change, IsMade, IsSaidAt, IsSaidBy, SaidAgain, Speech, UpStrides, end_writes, made_lone, made_scope, no_object, one_lone as lone_changes, one_scope as scope_changes, part_registers, part_writes, scope_answers, silent}
+use Rattle.ba_runs.proofs.Strides.{Above, Below, Change, IsMade, IsSaidAt, IsSaidBy, SaidAgain, Speech, UpStrides, end_writes, made_lone}
+use Rattle.ba_runs.proofs.Strides.{made_scope, no_object, one_lone as lone_changes, one_scope as scope_changes, part_registers, part_writes}
+use Rattle.ba_runs.proofs.Strides.{scope_answers, silent}
 use Rattle.ba_runs.proofs.Tests.{if_false, if_true, test_cases}
 
 -- ---- whose side of a link moves

@@ -19,7 +19,8 @@ use Rattle.ba_runs.specs.Links.{IsLink, link_in}
 use Rattle.ba_runs.specs.Safety.{IsSound}
 use Rattle.ba_runs.specs.Trees.{HasVerdictAbove, IsChild, TreesFit}
 use Rattle.ba_runs.specs.Words.{word_told}
-use Rattle.ba_runs.specs.World.{Net, Occasion, PartAt, ScopeAt, answer, delivers, letter, node_at, own, participant_at, registration_at, ticks}
+use Rattle.ba_runs.specs.World.{Net, Occasion, PartAt, ScopeAt, answer, delivers, letter, node_at, own, participant_at, registration_at}
+use Rattle.ba_runs.specs.World.{ticks}
 use Rattle.ba_runs.specs.WorldSteps.{IsPossible, BringsInput, Moves, effect}
 use Rattle.ba_runs.proofs.Addressed.{cause_of, endpoint_stays, registration_stays}
 use Rattle.ba_runs.proofs.Generations.{generations}

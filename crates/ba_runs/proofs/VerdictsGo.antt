@@ -1,6 +1,7 @@
 -- What a step of a node keeps of verdicts: an end keeps the one that it has, and a child has the one that it had, or the word that
 -- its upward part is told; for the law that the end above a child has the child's verdict.
-use Rattle.std.proofs.Common.{◌≡◌, ◌⊎◌, inl, inr, ℕ, Bool, true, false, ◌&&◌, List, [], ◌∷◌, ◌++◌, map, Option, None, Some, is_none, is_some, refl, sym, ap, ◌∙◌, subst, true≢false}
+use Rattle.std.proofs.Common.{◌≡◌, ◌⊎◌, inl, inr, ℕ, Bool, true, false, ◌&&◌, List, [], ◌∷◌, ◌++◌, map, Option, None, Some, is_none}
+use Rattle.std.proofs.Common.{is_some, refl, sym, ap, ◌∙◌, subst, true≢false}
 use Rattle.std.specs.List.{list_all}
 use Rattle.std.proofs.lemmas.Bool.{and_parts}
 use Rattle.ba_core.specs.EndRows.{chosen_state, end_row, end_tick}
@@ -26,11 +27,15 @@ use Rattle.ba_message.specs.declared.endpoints.Epr.{Epr}
 use Rattle.ba_scope.proofs.Calls.{by_option}
 use Rattle.ba_scope.proofs.Kept.{above_at, ends_below, verdict_below}
 use Rattle.ba_scope.proofs.Lists.{by_test}
-use Rattle.ba_scope.proofs.Tables.{above_passes, allows, each_handing_allows, end_passes, for_kinds, handing_allows, handings_allow, row_known, row_leads, rows_are_known, rows_lead}
+use Rattle.ba_scope.proofs.Tables.{above_passes, allows, each_handing_allows, end_passes, for_kinds, handing_allows, handings_allow}
+use Rattle.ba_scope.proofs.Tables.{row_known, row_leads, rows_are_known, rows_lead}
 use Rattle.ba_scope.specs.Fits.{Above, ScopeFits, above, end_fits, same_verdict}
-use Rattle.ba_ends.specs.Ends.{Tick, end_after_notice, end_after_row, end_asking, end_in_state, end_owing, end_with_verdict, end_with_verdict_if_none, tick_of_end, end_with_id, same_id}
+use Rattle.ba_ends.specs.Ends.{Tick, end_after_notice, end_after_row, end_asking, end_in_state, end_owing, end_with_verdict}
+use Rattle.ba_ends.specs.Ends.{end_with_verdict_if_none, tick_of_end, end_with_id, same_id}
 use Rattle.ba_ends.specs.Parts.{enrolled_part, part_asking, part_in_state, part_owing, refused_part, tick_of_part, verdict_on_the_way}
-use Rattle.ba_scope.specs.Rules.{ScopeStep, changed_at, choose, complete, decide, end_with_verdict_if_any, expire, finish, is_expired, is_past, leave_by, part_at_tick, scope_with_end, tick_up, verdict_then, with_end_changed, with_up, with_up_moved}
+use Rattle.ba_scope.specs.Rules.{ScopeStep, changed_at, choose, complete, decide, end_with_verdict_if_any, expire, finish, is_expired}
+use Rattle.ba_scope.specs.Rules.{is_past, leave_by, part_at_tick, scope_with_end, tick_up, verdict_then, with_end_changed, with_up}
+use Rattle.ba_scope.specs.Rules.{with_up_moved}
 use Rattle.ba_scope.specs.Scope.{ScopeState}
 use Rattle.ba_scope.specs.declared.answers.Said.{Said}
 use Rattle.ba_ends.specs.declared.ends.End.{End}
@@ -38,10 +43,13 @@ use Rattle.ba_ends.specs.declared.parts.Part.{Part}
 use Rattle.ba_steps.specs.declared.inputs.Input.{Input}
 use Rattle.ba_steps.specs.declared.inputs.Input.TheVariants as input
 use Rattle.ba_steps.specs.Fits.{NodeFits}
-use Rattle.ba_steps.specs.Node.{Among, EndPlace, NodeState, PartPlace, lone, next_id, nowhere, scope_in_place_of, upward, with_part_changed, with_scope}
+use Rattle.ba_steps.specs.Node.{Among, EndPlace, NodeState, PartPlace, lone, next_id, nowhere, scope_in_place_of, upward, with_part_changed}
+use Rattle.ba_steps.specs.Node.{with_scope}
 use Rattle.ba_steps.specs.Steps.{NodeStep, node_step}
 use Rattle.ba_steps.specs.Ticks.{TickStep, tick_step}
-use Rattle.ba_steps.proofs.Cases.{act_cases, ask_cases, create_cases, end_notice_cases, enrolled_cases, join_cases, on_choose_cases, on_complete_cases, on_decide_cases, on_finish_cases, on_leave_cases, part_notice_cases, refused_cases, register_cases, tick_cases}
+use Rattle.ba_steps.proofs.Cases.{act_cases, ask_cases, create_cases, end_notice_cases, enrolled_cases, join_cases, on_choose_cases}
+use Rattle.ba_steps.proofs.Cases.{on_complete_cases, on_decide_cases, on_finish_cases, on_leave_cases, part_notice_cases, refused_cases}
+use Rattle.ba_steps.proofs.Cases.{register_cases, tick_cases}
 use Rattle.ba_steps.proofs.Members.{all_among, among_left, among_map, same_id_is}
 use Rattle.ba_steps.proofs.Objects.{one_end, one_scope, scope_fits}
 use Rattle.ba_steps.proofs.Places.{EndStands, Stands, first_is, scope_found}

@@ -7,7 +7,8 @@ use Rattle.ba_core.specs.declared.codes.Code.TheVariants as code
 use Rattle.ba_core.specs.declared.identifiers.Id.{Id}
 use Rattle.ba_core.specs.declared.protocols.Protocol.{Protocol}
 use Rattle.ba_link.specs.Link as link
-use Rattle.ba_link.specs.Link.{Link, LinkState, LinkStep, refused_for_good, refused_for_now, register, registered, registering_link, to_end, to_part}
+use Rattle.ba_link.specs.Link.{Link, LinkState, LinkStep, refused_for_good, refused_for_now, register, registered, registering_link, to_end}
+use Rattle.ba_link.specs.Link.{to_part}
 use Rattle.ba_message.specs.Endpoints.{same_epr}
 use Rattle.ba_message.specs.declared.endpoints.Epr.{Epr}
 use Rattle.ba_message.specs.declared.messages.Message.{Message}

@@ -17,7 +17,8 @@ use Rattle.ba_steps.specs.declared.answers.Reply.{Reply}
 use Rattle.ba_steps.specs.declared.answers.Reply.TheVariants as reply
 use Rattle.ba_steps.specs.declared.inputs.Input.{Input}
 use Rattle.ba_steps.specs.declared.inputs.Input.TheVariants as input
-use Rattle.ba_runs.specs.World.{Mail, Mode, Net, Occasion, ScopeAt, World, answer, delivers, is_closed, is_down, is_up, letter, net_of, own, registration_at, node_at, ticks}
+use Rattle.ba_runs.specs.World.{Mail, Mode, Net, Occasion, ScopeAt, World, answer, delivers, is_closed, is_down, is_up, letter, net_of, own}
+use Rattle.ba_runs.specs.World.{registration_at, node_at, ticks}
 
 -- ---- what may happen at a node
 

@@ -1,5 +1,6 @@
 -- Each call of a scope keeps it fit, whatever it answers.
-use Rattle.std.proofs.Common.{◌≡◌, ℕ, ◌≤◌, Bool, true, false, not, ◌&&◌, ◌||◌, List, [], ◌∷◌, ◌++◌, length, map, nat_le, Option, None, Some, unwrap_or, is_none, is_some, refl, sym, ap, ◌∙◌, subst, if◌then◌else◌, true≢false, arith, length-append, lit≤}
+use Rattle.std.proofs.Common.{◌≡◌, ℕ, ◌≤◌, Bool, true, false, not, ◌&&◌, ◌||◌, List, [], ◌∷◌, ◌++◌, length, map, nat_le, Option, None, Some}
+use Rattle.std.proofs.Common.{unwrap_or, is_none, is_some, refl, sym, ap, ◌∙◌, subst, if◌then◌else◌, true≢false, arith, length-append, lit≤}
 use Rattle.std.specs.List.{AllByRecursion, find, list_all, list_any}
 use Rattle.std.specs.Option.{option_map}
 use Rattle.std.proofs.lemmas.Bool.{and_parts, and_from}
@@ -34,18 +35,33 @@ use Rattle.ba_message.specs.Endpoints.{same_epr}
 use Rattle.ba_message.specs.declared.endpoints.Epr.{Epr}
 use Rattle.ba_scope.specs.declared.answers.EnrolFault.TheVariants.{NotYetEnrolled, Sealed, Full}
 use Rattle.ba_scope.specs.declared.answers.Said.{Said}
-use Rattle.ba_scope.specs.declared.answers.TheConstants.{ALREADY_DECIDED, NOT_READY, NOT_A_ROOT, WRONG_KIND, NO_SUCH_END, NOT_A_CHILD, NOT_DRAINED, WRONG_STATE}
+use Rattle.ba_scope.specs.declared.answers.TheConstants.{ALREADY_DECIDED, NOT_READY, NOT_A_ROOT, WRONG_KIND, NO_SUCH_END, NOT_A_CHILD}
+use Rattle.ba_scope.specs.declared.answers.TheConstants.{NOT_DRAINED, WRONG_STATE}
 use Rattle.ba_ends.specs.declared.ends.End.{End}
 use Rattle.ba_ends.specs.declared.parts.Part.{Part}
-use Rattle.ba_ends.specs.Parts.{part_fits, part_in_state, enrolled_part, refused_part, tick_of_part, act_when_drained, state_after_act, is_enrolled_as, part_owing, part_asking, has_no_coordinator, is_registering}
-use Rattle.ba_scope.specs.Fits.{Above, goes_with, end_fits, above, are_apart, is_other_end, verdict_fits_above, verdict_goes, up_state, up_fits, ScopeFits}
-use Rattle.ba_ends.specs.Ends.{Tick, is_ready_for, end_with_verdict, end_with_verdict_if_none, end_in_state, new_end, tick_of_end, end_owing, end_asking, same_id, end_with_id, end_of, first_failing, is_ready_state, is_ended_state}
-use Rattle.ba_scope.specs.Rules.{ScopeStep, refused_step, done_step, where_each_end, is_atomic, scope_with_verdict, decide, choose, choose_for, complete, complete_for, changed_at, with_end_changed, expire, is_expired, is_past, enrol_refusal, scope_with_end, with_up, finish, finish_for, leave_by, leave_for, leave_act, may_leave, enrolled_scope, refused_scope, new_scope, end_receive, up_receive, tick_end, state_at_tick, part_at_tick, tick_up, flag, owe, ask}
+use Rattle.ba_ends.specs.Parts.{part_fits, part_in_state, enrolled_part, refused_part, tick_of_part, act_when_drained, state_after_act}
+use Rattle.ba_ends.specs.Parts.{is_enrolled_as, part_owing, part_asking, has_no_coordinator, is_registering}
+use Rattle.ba_scope.specs.Fits.{Above, goes_with, end_fits, above, are_apart, is_other_end, verdict_fits_above, verdict_goes, up_state}
+use Rattle.ba_scope.specs.Fits.{up_fits, ScopeFits}
+use Rattle.ba_ends.specs.Ends.{Tick, is_ready_for, end_with_verdict, end_with_verdict_if_none, end_in_state, new_end, tick_of_end}
+use Rattle.ba_ends.specs.Ends.{end_owing, end_asking, same_id, end_with_id, end_of, first_failing, is_ready_state, is_ended_state}
+use Rattle.ba_scope.specs.Rules.{ScopeStep, refused_step, done_step, where_each_end, is_atomic, scope_with_verdict, decide, choose}
+use Rattle.ba_scope.specs.Rules.{choose_for, complete, complete_for, changed_at, with_end_changed, expire, is_expired, is_past}
+use Rattle.ba_scope.specs.Rules.{enrol_refusal, scope_with_end, with_up, finish, finish_for, leave_by, leave_for, leave_act, may_leave}
+use Rattle.ba_scope.specs.Rules.{enrolled_scope, refused_scope, new_scope, end_receive, up_receive, tick_end, state_at_tick, part_at_tick}
+use Rattle.ba_scope.specs.Rules.{tick_up, flag, owe, ask}
 use Rattle.ba_scope.specs.Scope.{ScopeState, has_id, is_own_id, is_drained, any_failed, is_at_work, is_sealed, is_full}
 use Rattle.ba_scope.proofs.Lists.{by_test, none_fails}
-use Rattle.ba_scope.proofs.Kept.{AllFit, KeepsWho, above_at, apart_kept, at_keeps, changed_fits, decided_fits, each_kept, ids_kept, end_received_fits, own_part_state, part_above, part_in_fits, same_up_fits, up_gone_fits, up_received_fits, verdict_below}
+use Rattle.ba_scope.proofs.Kept.{AllFit, KeepsWho, above_at, apart_kept, at_keeps, changed_fits, decided_fits, each_kept, ids_kept}
+use Rattle.ba_scope.proofs.Kept.{end_received_fits, own_part_state, part_above, part_in_fits, same_up_fits, up_gone_fits, up_received_fits}
+use Rattle.ba_scope.proofs.Kept.{verdict_below}
 use Rattle.ba_scope.proofs.Places.{moves, others_stay, stays}
-use Rattle.ba_scope.proofs.Tables.{Test, above_passes, acts_fit, any_state, anywhere_above, choosing, completing, draining, draining_at, draining_for, drained_fits, each_act_fits, each_asking_keeps, each_choice_keeps, each_draining_keeps, each_drained_fits, each_enrolled_keeps, each_expiry_keeps, each_finish_keeps, each_leave_keeps, each_new_end_fits, each_refused_keeps, each_tick_keeps, end_expired, end_goes, end_passes, enrolling_at, finishing, finishing_at, for_kinds, goes_pair, if_leads, leaving, leaving_at, same_truth, takes_below, takes_one, ticking, up_goes}
+use Rattle.ba_scope.proofs.Tables.{Test, above_passes, acts_fit, any_state, anywhere_above, choosing, completing, draining, draining_at}
+use Rattle.ba_scope.proofs.Tables.{draining_for, drained_fits, each_act_fits, each_asking_keeps, each_choice_keeps, each_draining_keeps}
+use Rattle.ba_scope.proofs.Tables.{each_drained_fits, each_enrolled_keeps, each_expiry_keeps, each_finish_keeps, each_leave_keeps}
+use Rattle.ba_scope.proofs.Tables.{each_new_end_fits, each_refused_keeps, each_tick_keeps, end_expired, end_goes, end_passes, enrolling_at}
+use Rattle.ba_scope.proofs.Tables.{finishing, finishing_at, for_kinds, goes_pair, if_leads, leaving, leaving_at, same_truth, takes_below}
+use Rattle.ba_scope.proofs.Tables.{takes_one, ticking, up_goes}
 
 -- ---- by the answer of a look-up
 
@@ -139,9 +155,11 @@ choice_fits : (s : ScopeState) (v : Verdict) (e : End) (next : CState) → s.up 
 choice_fits s v e next root mixed undecided chosen fits fit =
     let a : Above = record { up = None; kind = Mixed; verdict = s.verdict } in
     let seen : above s ≡ a = (λ i. record { up = up_state (root i); kind = mixed i; verdict = s.verdict }) in
-    let by_verdict = verdict_passes (λ w. only_if (verdict_fits_above None Mixed w) (λ u. choosing v (record { up = None; kind = Mixed; verdict = u })) w)
+    let by_verdict = verdict_passes (λ w. only_if (verdict_fits_above None Mixed w)
+    (λ u. choosing v (record { up = None; kind = Mixed; verdict = u })) w)
     (each_choice_keeps v) s.verdict in
-    let here = where_asked (verdict_fits_above None Mixed s.verdict) (λ u. choosing v (record { up = None; kind = Mixed; verdict = u })) s.verdict
+    let here = where_asked (verdict_fits_above None Mixed s.verdict)
+    (λ u. choosing v (record { up = None; kind = Mixed; verdict = u })) s.verdict
     by_verdict (subst (λ (x : Above). verdict_goes x ≡ true) seen fits.verdict) in
     let goes : Protocol → CState → Bool = λ protocol from. end_goes a protocol (Some v) (chosen_state protocol from v) in
     let at_e = end_passes (λ protocol state ev. only_if (is_open ev) (goes protocol) state) a here e.protocol e.state e.verdict
@@ -153,7 +171,8 @@ choice_fits s v e next root mixed undecided chosen fits fit =
     (subst (λ (x : CState). goes_with a e.protocol x (Some v) None ≡ true) (sym state) led_to)
 
 choose_for_fits : (s : ScopeState) (id : Id) (v : Verdict) (e : End) → end_with_id s.ends id ≡ Some e → s.up ≡ None → s.kind ≡ Mixed
-    → is_some e.verdict ≡ false → ScopeFits s → (o : Option CState) → chosen_state e.protocol e.state v ≡ o → AfterFits (choose_for s id v o)
+    → is_some e.verdict ≡ false → ScopeFits s → (o : Option CState) → chosen_state e.protocol e.state v ≡ o
+    → AfterFits (choose_for s id v o)
 choose_for_fits s id v e found root mixed undecided fits None is = fits
 choose_for_fits s id v e found root mixed undecided fits (Some next) is =
     found_changed_fits s id e (end_with_verdict v) found (record { id = λ x. refl; participant = λ x. refl })
@@ -207,7 +226,8 @@ absent_by : {X : Type 0} (o : Option X) → is_none o ≡ true → o ≡ None
 absent_by None h = refl
 absent_by (Some x) h = absurd (true≢false (sym h))
 
-expired_end_fits : (b : Above) (e : End) (v : Option Verdict) → e.verdict ≡ v → goes_pair b e.protocol (end_expired e.protocol e.state v) ≡ true
+expired_end_fits : (b : Above) (e : End) (v : Option Verdict) → e.verdict ≡ v
+    → goes_pair b e.protocol (end_expired e.protocol e.state v) ≡ true
     → end_fits b (if is_none v then end_with_verdict Undo e else e) ≡ true
 expired_end_fits b e None is h = h
 expired_end_fits b e (Some v) is h = subst (λ (w : Option Verdict). goes_with b e.protocol e.state w None ≡ true) (sym is) h
@@ -215,7 +235,8 @@ expired_end_fits b e (Some v) is h = subst (λ (w : Option Verdict). goes_with b
 expired_who : KeepsWho (end_with_verdict_if_none Undo)
 expired_who = record {
   id = λ e. by_test (λ (x : End). x.id ≡ e.id) (is_none e.verdict) (end_with_verdict Undo e) e (λ h. refl) (λ h. refl);
-  participant = λ e. by_test (λ (x : End). x.participant ≡ e.participant) (is_none e.verdict) (end_with_verdict Undo e) e (λ h. refl) (λ h. refl);
+  participant = λ e. by_test (λ (x : End). x.participant ≡ e.participant) (is_none e.verdict) (end_with_verdict Undo e) e
+      (λ h. refl) (λ h. refl);
 }
 
 expired_verdict : (kind : Kind) → verdict_fits_above None kind (Some Undo) ≡ true
@@ -228,7 +249,8 @@ expired_fits s root undecided fits =
     let a : Above = record { up = None; kind = s.kind; verdict = None } in
     let b : Above = record { up = None; kind = s.kind; verdict = Some Undo } in
     let seen : above s ≡ a = (λ i. record { up = up_state (root i); kind = s.kind; verdict = undecided i }) in
-    let after : above (record s { verdict = Some Undo }) ≡ b = (λ i. record { up = up_state (root i); kind = s.kind; verdict = Some Undo }) in
+    let after : above (record s { verdict = Some Undo }) ≡ b =
+    (λ i. record { up = up_state (root i); kind = s.kind; verdict = Some Undo }) in
     let test : Test = λ protocol state ev. goes_pair b protocol (end_expired protocol state ev) in
     let each = each_kept a b (end_with_verdict_if_none Undo)
     (λ e fit. expired_end_fits b e e.verdict refl (end_passes test a (each_expiry_keeps s.kind) e.protocol e.state e.verdict fit))
@@ -261,7 +283,8 @@ list_append test (e ∷ es) new h k =
     let both = and_parts (test e) (list_all test es) h in
     and_from (test e) (list_all test (es ++ new ∷ [])) both.0 (list_append test es new both.1 k)
 
-apart_append : (new : End) (es : List End) → are_apart es ≡ true → list_all (λ e. is_other_end e new) es ≡ true → are_apart (es ++ new ∷ []) ≡ true
+apart_append : (new : End) (es : List End) → are_apart es ≡ true → list_all (λ e. is_other_end e new) es ≡ true
+    → are_apart (es ++ new ∷ []) ≡ true
 apart_append new [] apart other = refl
 apart_append new (e ∷ es) apart other =
     let both = and_parts (list_all (is_other_end e) es) (are_apart es) apart in
@@ -396,8 +419,10 @@ finish_for_fits : (s : ScopeState) (up : Part) → s.up ≡ Some up → ScopeFit
 finish_for_fits s up is_up fits None is = fits
 finish_for_fits s up is_up fits (Some next) is =
     let a : Above = above_at up.state s in
-    let by_state = above_passes (finishing_at up.state) a (part_passes finishing each_finish_keeps up.state) (verdict_below s up is_up fits) in
-    let by_protocol = protocol_passes (λ protocol. if_leads (up_goes is_ready_state a) (acted_state protocol up.state act.Completed)) by_state up.protocol in
+    let by_state = above_passes (finishing_at up.state) a (part_passes finishing each_finish_keeps up.state)
+    (verdict_below s up is_up fits) in
+    let by_protocol = protocol_passes (λ protocol. if_leads (up_goes is_ready_state a) (acted_state protocol up.state act.Completed))
+    by_state up.protocol in
     gone s up next is_ready_state NOT_READY is_up fits
     (led (up_goes is_ready_state a) (acted_state up.protocol up.state act.Completed) next is by_protocol)
     (acted_part_fits up act.Completed next is (part_above s up is_up fits))
@@ -412,7 +437,8 @@ leave_for_fits : (s : ScopeState) (how : Leave) (up : Part) → s.up ≡ Some up
 leave_for_fits s how up is_up may fits None is = fits
 leave_for_fits s how up is_up may fits (Some next) is =
     let a : Above = above_at up.state s in
-    let by_state = above_passes (leaving_at how up.state) a (part_passes (leaving how) (each_leave_keeps how) up.state) (verdict_below s up is_up fits) in
+    let by_state = above_passes (leaving_at how up.state) a (part_passes (leaving how) (each_leave_keeps how) up.state)
+    (verdict_below s up is_up fits) in
     let leads : Protocol → PState → Bool = λ protocol p. if_leads (up_goes is_ended_state a) (acted_state protocol p (leave_act how)) in
     let by_protocol = protocol_passes (λ protocol. only_if (may_leave up.state) (leads protocol) up.state) by_state up.protocol in
     gone s up next is_ended_state NOT_DRAINED is_up fits
@@ -447,7 +473,8 @@ told_up_fits s up up2 is_up registering goes id has fits =
     all_any [] = tt
     all_any (e ∷ es) = (refl, all_any es)
 
-each_protocol_at : (protocol : Protocol) (state : PState) → list_all (λ p. is_part_state p state) protocols ≡ true → is_part_state protocol state ≡ true
+each_protocol_at : (protocol : Protocol) (state : PState) → list_all (λ p. is_part_state p state) protocols ≡ true
+    → is_part_state protocol state ≡ true
 each_protocol_at protocol state h = protocol_passes (λ p. is_part_state p state) h protocol
 
 no_coordinator : (up : Part) → is_registering (Some up) ≡ true → part_fits up ≡ true → is_none up.coordinator ≡ true
@@ -457,7 +484,8 @@ no_coordinator up registering fits =
     subst (λ (p : PState). (if has_no_coordinator p then is_none up.coordinator else is_some up.coordinator) ≡ true)
     (registering_is up.state registering) both.1
 
-pub enrolled_fits : (s : ScopeState) (coordinator : Epr) → is_registering s.up ≡ true → ScopeFits s → ScopeFits (enrolled_scope coordinator s)
+pub enrolled_fits : (s : ScopeState) (coordinator : Epr) → is_registering s.up ≡ true → ScopeFits s
+    → ScopeFits (enrolled_scope coordinator s)
 enrolled_fits s coordinator registering fits = by_up s.up refl registering
   where
     by_up : (u : Option Part) → s.up ≡ u → is_registering u ≡ true → ScopeFits (enrolled_scope coordinator s)
@@ -493,17 +521,20 @@ up_receive_fits s n fits =
 tick_who : KeepsWho (λ e. (tick_of_end e).after)
 tick_who = record {
   id = λ e. by_test (λ (r : Tick End). r.after.id ≡ e.id) e.owes _ _ (λ h. refl)
-      (λ h. by_test (λ (r : Tick End). r.after.id ≡ e.id) e.asks (record { after = record e { asks = false }; says = Some notice.GetStatus })
+      (λ h. by_test (λ (r : Tick End). r.after.id ≡ e.id) e.asks
+      (record { after = record e { asks = false }; says = Some notice.GetStatus })
       (record { after = end_in_state (end_tick e.state).0 e; says = (end_tick e.state).1 }) (λ k. refl) (λ k. refl));
   participant = λ e. by_test (λ (r : Tick End). r.after.participant ≡ e.participant) e.owes _ _ (λ h. refl)
-      (λ h. by_test (λ (r : Tick End). r.after.participant ≡ e.participant) e.asks (record { after = record e { asks = false }; says = Some notice.GetStatus })
+      (λ h. by_test (λ (r : Tick End). r.after.participant ≡ e.participant) e.asks
+      (record { after = record e { asks = false }; says = Some notice.GetStatus })
       (record { after = end_in_state (end_tick e.state).0 e; says = (end_tick e.state).1 }) (λ k. refl) (λ k. refl));
 }
 
 ticked_end_fits : (a : Above) (e : End) → verdict_goes a ≡ true → end_fits a e ≡ true → end_fits a (tick_of_end e).after ≡ true
 ticked_end_fits a e verdict fit =
     by_test (λ (r : Tick End). end_fits a r.after ≡ true) e.owes _ _ (λ h. fit)
-    (λ h. by_test (λ (r : Tick End). end_fits a r.after ≡ true) e.asks (record { after = record e { asks = false }; says = Some notice.GetStatus })
+    (λ h. by_test (λ (r : Tick End). end_fits a r.after ≡ true) e.asks
+    (record { after = record e { asks = false }; says = Some notice.GetStatus })
     (record { after = end_in_state (end_tick e.state).0 e; says = (end_tick e.state).1 }) (λ k. fit)
     (λ k. end_passes (λ protocol state v. goes_with a protocol (end_tick state).0 v None) a
     (anywhere_above ticking each_tick_keeps a verdict) e.protocol e.state e.verdict fit))
@@ -535,10 +566,12 @@ drained_up_fits s up failed is_up fits drained =
     (protocol_passes (λ protocol. list_all (drained_fits failed protocol) parts) (each_drained_fits failed) up.protocol) up.state in
     let fit = where_asked (is_part_state up.protocol up.state)
     (λ before. let to = state_after_act up.protocol before (act_when_drained before failed) in
-    is_part_state up.protocol to && same_truth (has_no_coordinator before) (has_no_coordinator to)) up.state here (own_part_state up part) in
+    is_part_state up.protocol to && same_truth (has_no_coordinator before) (has_no_coordinator to)) up.state here
+    (own_part_state up part) in
     up_gone_fits s up (part_in_state next up) is_ended_state is_up fits (all_ended s.ends drained) goes refl (part_in_fits up next part fit)
   where
-    all_ended : (es : List End) → list_all (λ e. is_ended_state e.state) es ≡ true → AllByRecursion (λ (e : End). is_ended_state e.state ≡ true) es
+    all_ended : (es : List End) → list_all (λ e. is_ended_state e.state) es ≡ true
+        → AllByRecursion (λ (e : End). is_ended_state e.state ≡ true) es
     all_ended [] h = tt
     all_ended (e ∷ es) h =
         let both = and_parts (is_ended_state e.state) (list_all (λ x. is_ended_state x.state) es) h in
@@ -590,7 +623,8 @@ ask_fits s id fits =
 
 -- ---- a new scope
 
-pub new_scope_fits : (id : Id) (kind : Kind) (deadline : Option ℕ) (up : Option Part) → ((p : Part) → up ≡ Some p → is_registering (Some p) ≡ true)
+pub new_scope_fits : (id : Id) (kind : Kind) (deadline : Option ℕ) (up : Option Part)
+    → ((p : Part) → up ≡ Some p → is_registering (Some p) ≡ true)
     → up_fits up ≡ true → ScopeFits (new_scope id kind deadline up)
 new_scope_fits id kind deadline up registering fits = record {
   ends = tt;

@@ -1,5 +1,6 @@
 -- Each call keeps a scope fit.
-use Rattle.std.proofs.Common.{◌≡◌, Bool, true, false, not, ◌&&◌, ◌||◌, List, [], ◌∷◌, map, Option, None, Some, unwrap_or, IsTrue, is_none, is_some, refl, sym, ap, ◌∙◌, subst, if◌then◌else◌}
+use Rattle.std.proofs.Common.{◌≡◌, Bool, true, false, not, ◌&&◌, ◌||◌, List, [], ◌∷◌, map, Option, None, Some, unwrap_or, IsTrue, is_none}
+use Rattle.std.proofs.Common.{is_some, refl, sym, ap, ◌∙◌, subst, if◌then◌else◌}
 use Rattle.std.specs.List.{AllByRecursion, list_all}
 use Rattle.std.proofs.lemmas.Bool.{and_parts, and_from}
 use Rattle.std.proofs.lemmas.List.{length-map}
@@ -25,10 +26,15 @@ use Rattle.ba_ends.specs.declared.parts.Part.{Part}
 use Rattle.ba_ends.specs.Parts.{has_no_coordinator, verdict_on_the_way, state_after_row, part_in_state, part_fits}
 use Rattle.ba_ends.specs.Ends.{same_id, end_with_verdict, end_after_row, is_ready_for}
 use Rattle.ba_scope.specs.Scope.{ScopeState, is_id_above, is_own_id}
-use Rattle.ba_scope.specs.Rules.{scope_with_verdict, end_with_verdict_if_any, with_up_moved, with_up, changed_at, with_end_changed, word_for}
-use Rattle.ba_scope.specs.Fits.{Above, goes_with, end_fits, above, are_apart, are_ids_free, is_other_end, verdict_goes, up_state, up_fits, ScopeFits}
+use Rattle.ba_scope.specs.Rules.{scope_with_verdict, end_with_verdict_if_any, with_up_moved, with_up, changed_at, with_end_changed}
+use Rattle.ba_scope.specs.Rules.{word_for}
+use Rattle.ba_scope.specs.Fits.{Above, goes_with, end_fits, above, are_apart, are_ids_free, is_other_end, verdict_goes, up_state, up_fits}
+use Rattle.ba_scope.specs.Fits.{ScopeFits}
 use Rattle.ba_scope.proofs.Lists.{by_test, word_is}
-use Rattle.ba_scope.proofs.Tables.{Test, at_ends, end_passes, above_passes, for_kinds, anywhere_above, receiving, told_above, undecided, row_keeps, each_notice_keeps, decision_keeps, rows_lead, row_leads, row_known, rows_are_known, moved_above, end_after_verdict, goes_pair, handing, handings, each_handing_keeps, up_goes, part_row_fits, part_rows_fit, each_part_row_fits, same_truth}
+use Rattle.ba_scope.proofs.Tables.{Test, at_ends, end_passes, above_passes, for_kinds, anywhere_above, receiving, told_above, undecided}
+use Rattle.ba_scope.proofs.Tables.{row_keeps, each_notice_keeps, decision_keeps, rows_lead, row_leads, row_known, rows_are_known}
+use Rattle.ba_scope.proofs.Tables.{moved_above, end_after_verdict, goes_pair, handing, handings, each_handing_keeps, up_goes, part_row_fits}
+use Rattle.ba_scope.proofs.Tables.{part_rows_fit, each_part_row_fits, same_truth}
 
 -- ---- lists of ends
 
@@ -129,7 +135,8 @@ handed_fits s up next is_up fits leads part =
     let test : Test = λ protocol s ev. goes_pair b protocol (end_after_verdict v protocol s ev) in
     let by_before = part_passes (λ before. list_all (handings before) parts) each_handing_keeps up.state in
     let by_next = part_passes (handings up.state) by_before next in
-    let kinds = where_asked (part_among (rows_lead up.state) next) (λ to. for_kinds (handing up.state to) (Some up.state)) next by_next leads in
+    let kinds = where_asked (part_among (rows_lead up.state) next) (λ to. for_kinds (handing up.state to) (Some up.state)) next
+    by_next leads in
     let both = and_parts (verdict_goes b) (at_ends test a)
     (above_passes (handing up.state next) a kinds (verdict_below s up is_up fits)) in
     record {
@@ -224,7 +231,8 @@ same_up_fits s up up2 is_up fits same id part =
     let keep : Some up2.state ≡ up_state s.up = ap Some same ∙ sym (ap up_state is_up) in
     record {
       ends = subst (λ (u : Option PState). AllFit (record { up = u; kind = s.kind; verdict = s.verdict }) s.ends) (sym keep) fits.ends;
-      verdict = subst (λ (u : Option PState). verdict_goes (record { up = u; kind = s.kind; verdict = s.verdict }) ≡ true) (sym keep) fits.verdict;
+      verdict = subst (λ (u : Option PState). verdict_goes (record { up = u; kind = s.kind; verdict = s.verdict }) ≡ true)
+          (sym keep) fits.verdict;
       up = part;
       apart = fits.apart;
       ids = ids_below s up up2 is_up id fits;
@@ -288,7 +296,8 @@ pub decided_fits : (s : ScopeState) (v : Verdict) → s.up ≡ None → s.kind �
 decided_fits s v root atomic open_ fits ready =
     let b : Above = told_above None Atomic v in
     let next : Protocol → CState → CState = λ protocol from. unwrap_or (chosen_state protocol from v) from in
-    let test : Test = λ protocol state ev. only_if (is_ready_for v state) (λ from. goes_with b protocol (next protocol from) (Some v) None) state in
+    let test : Test = λ protocol state ev. only_if (is_ready_for v state)
+    (λ from. goes_with b protocol (next protocol from) (Some v) None) state in
     let seen : above s ≡ undecided = (λ i. record { up = up_state (root i); kind = atomic i; verdict = open_ i }) in
     let after : above (scope_with_verdict v s) ≡ b = (λ i. record { up = up_state (root i); kind = atomic i; verdict = Some v }) in
     let f : End → End = λ e. end_with_verdict (word_for v e) e in

@@ -1,5 +1,6 @@
 -- Of a fit scope each end is in a state of its protocol, and so is its own participant.
-use Rattle.std.proofs.Common.{◌≡◌, ℕ, Bool, true, false, ◌&&◌, List, [], ◌∷◌, None, Some, IsTrue, if◌then◌else◌, slice_get, zero, suc, subst}
+use Rattle.std.proofs.Common.{◌≡◌, ℕ, Bool, true, false, ◌&&◌, List, [], ◌∷◌, None, Some, IsTrue, if◌then◌else◌, slice_get, zero, suc}
+use Rattle.std.proofs.Common.{subst}
 use Rattle.std.specs.List.{AllByRecursion}
 use Rattle.std.proofs.lemmas.Bool.{and_parts}
 use Rattle.ba_core.specs.EndRows.{is_end_state}

@@ -19,19 +19,26 @@ use Rattle.ba_core.specs.declared.states.PState.{PState}
 use Rattle.ba_link.specs.States.{part_among}
 use Rattle.ba_link.proofs.Everywhere.{only_if, where_asked, protocol_passes, parts, part_passes}
 use Rattle.ba_message.specs.declared.endpoints.Epr.{Epr}
-use Rattle.ba_scope.specs.Calls.{Call, by_enrol, by_decide, by_choose, by_complete, by_expire, by_end_receive, by_end_tick, by_enrolled, by_refused, by_finish, by_leave, by_up_receive, by_up_tick, by_owe, by_ask, scope_after}
+use Rattle.ba_scope.specs.Calls.{Call, by_enrol, by_decide, by_choose, by_complete, by_expire, by_end_receive, by_end_tick, by_enrolled}
+use Rattle.ba_scope.specs.Calls.{by_refused, by_finish, by_leave, by_up_receive, by_up_tick, by_owe, by_ask, scope_after}
 use Rattle.ba_scope.specs.declared.answers.Said.{Said}
-use Rattle.ba_scope.specs.declared.answers.TheConstants.{ALREADY_DECIDED, NOT_READY, NOT_A_ROOT, WRONG_KIND, NO_SUCH_END, NOT_A_CHILD, NOT_DRAINED, WRONG_STATE}
+use Rattle.ba_scope.specs.declared.answers.TheConstants.{ALREADY_DECIDED, NOT_READY, NOT_A_ROOT, WRONG_KIND, NO_SUCH_END, NOT_A_CHILD}
+use Rattle.ba_scope.specs.declared.answers.TheConstants.{NOT_DRAINED, WRONG_STATE}
 use Rattle.ba_ends.specs.declared.ends.End.{End}
 use Rattle.ba_ends.specs.declared.parts.Part.{Part}
 use Rattle.ba_ends.specs.Ends.{Tick, is_ready_for, end_owing, end_asking, end_with_id, first_failing, is_ended_state, is_ready_state}
-use Rattle.ba_ends.specs.Parts.{part_in_state, enrolled_part, refused_part, act_when_drained, state_after_act, state_after_row, is_enrolled_as, part_owing, part_asking, verdict_on_the_way, is_registering}
-use Rattle.ba_scope.specs.Rules.{ScopeStep, refused_step, done_step, where_each_end, is_atomic, scope_with_verdict, decide, choose, choose_for, complete, complete_for, expire, is_expired, enrol_refusal, with_up, finish, finish_for, leave_by, leave_for, leave_act, may_leave, enrolled_scope, refused_scope, end_receive, up_receive, tick_end, state_at_tick, part_at_tick, tick_up, flag, verdict_then, with_up_moved}
+use Rattle.ba_ends.specs.Parts.{part_in_state, enrolled_part, refused_part, act_when_drained, state_after_act, state_after_row}
+use Rattle.ba_ends.specs.Parts.{is_enrolled_as, part_owing, part_asking, verdict_on_the_way, is_registering}
+use Rattle.ba_scope.specs.Rules.{ScopeStep, refused_step, done_step, where_each_end, is_atomic, scope_with_verdict, decide, choose}
+use Rattle.ba_scope.specs.Rules.{choose_for, complete, complete_for, expire, is_expired, enrol_refusal, with_up, finish, finish_for}
+use Rattle.ba_scope.specs.Rules.{leave_by, leave_for, leave_act, may_leave, enrolled_scope, refused_scope, end_receive, up_receive}
+use Rattle.ba_scope.specs.Rules.{tick_end, state_at_tick, part_at_tick, tick_up, flag, verdict_then, with_up_moved}
 use Rattle.ba_scope.specs.Scope.{ScopeState, is_drained, any_failed, is_at_work, is_sealed}
 use Rattle.ba_scope.proofs.Lists.{by_test}
 use Rattle.ba_scope.proofs.Kept.{after_leads, self_leads}
 use Rattle.ba_scope.proofs.Calls.{by_option, led, registering_is, ticked_part}
-use Rattle.ba_scope.proofs.Tables.{act_closes, each_act_closes, drained_reopens_none, each_drained_reopens_none, is_open_state, no_reopening, row_known, rows_are_known, rows_lead, rows_reopen_none}
+use Rattle.ba_scope.proofs.Tables.{act_closes, each_act_closes, drained_reopens_none, each_drained_reopens_none, is_open_state}
+use Rattle.ba_scope.proofs.Tables.{no_reopening, row_known, rows_are_known, rows_lead, rows_reopen_none}
 
 -- a verdict that stays, or a participant that doesn't come back to work
 still : (a b c d : Bool) → (a ≡ true → c ≡ true) → (d ≡ true → b ≡ true) → (a || not b) ≡ true → (c || not d) ≡ true

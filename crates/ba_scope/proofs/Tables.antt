@@ -28,7 +28,8 @@ use Rattle.ba_core.specs.declared.states.PState.TheVariants as part
 use Rattle.ba_link.specs.Link.{settled_state}
 use Rattle.ba_link.specs.States.{part_among}
 use Rattle.ba_link.specs.Pairs.{is_open}
-use Rattle.ba_link.proofs.Everywhere.{only_if, where_asked, protocols, protocol_passes, verdicts, verdict_passes, ends, state_passes, parts, part_passes, at_place}
+use Rattle.ba_link.proofs.Everywhere.{only_if, where_asked, protocols, protocol_passes, verdicts, verdict_passes, ends, state_passes, parts}
+use Rattle.ba_link.proofs.Everywhere.{part_passes, at_place}
 use Rattle.ba_scope.specs.Fits.{Above, goes_with, verdict_fits_above}
 use Rattle.ba_ends.specs.Parts.{act_when_drained, state_after_act, verdict_on_the_way, has_no_coordinator}
 use Rattle.ba_ends.specs.Ends.{is_ready_for, is_ended_state, is_ready_state}
@@ -75,17 +76,20 @@ for_verdicts test up kind = list_all (λ v. only_if (verdict_fits_above up kind 
 abbrev pub for_kinds : (Above → Bool) → Option PState → Bool
 for_kinds test up = list_all (for_verdicts test up) kinds
 
-pub above_passes : (test : Above → Bool) (a : Above) → for_kinds test a.up ≡ true → verdict_fits_above a.up a.kind a.verdict ≡ true → test a ≡ true
+pub above_passes : (test : Above → Bool) (a : Above) → for_kinds test a.up ≡ true → verdict_fits_above a.up a.kind a.verdict ≡ true
+    → test a ≡ true
 above_passes test a h fits =
     let by_kind = kind_passes (for_verdicts test a.up) h a.kind in
-    let by_verdict = verdict_passes (λ v. only_if (verdict_fits_above a.up a.kind v) (λ w. test (with_up a.up a.kind w)) v) by_kind a.verdict in
+    let by_verdict = verdict_passes (λ v. only_if (verdict_fits_above a.up a.kind v) (λ w. test (with_up a.up a.kind w)) v)
+    by_kind a.verdict in
     where_asked (verdict_fits_above a.up a.kind a.verdict) (λ w. test (with_up a.up a.kind w)) a.verdict by_verdict fits
 
 -- the test at a root, and below each upward part
 abbrev pub everywhere_above : (Above → Bool) → Bool
 everywhere_above test = for_kinds test None && list_all (λ p. for_kinds test (Some p)) parts
 
-pub anywhere_above : (test : Above → Bool) → everywhere_above test ≡ true → (a : Above) → verdict_fits_above a.up a.kind a.verdict ≡ true → test a ≡ true
+pub anywhere_above : (test : Above → Bool) → everywhere_above test ≡ true → (a : Above) → verdict_fits_above a.up a.kind a.verdict ≡ true
+    → test a ≡ true
 anywhere_above test h a fits = above_passes test a (up_passes test h a.up) fits
   where
     up_passes : (test : Above → Bool) → everywhere_above test ≡ true → (up : Option PState) → for_kinds test up ≡ true
@@ -125,7 +129,8 @@ abbrev pub told_above : Option PState → Kind → Verdict → Above
 told_above up kind v = with_up up kind (Some v)
 
 abbrev pub telling : Above → Verdict → (CState → Bool) → Above → Bool
-telling after v ready a = at_ends (λ protocol s ev. only_if (ready s) (λ from. goes_with after protocol (unwrap_or (chosen_state protocol from v) from) (Some v) None) s) a
+telling after v ready a = at_ends (λ protocol s ev. only_if (ready s)
+    (λ from. goes_with after protocol (unwrap_or (chosen_state protocol from v) from) (Some v) None) s) a
 
 abbrev pub undecided : Above
 undecided = with_up None Atomic None
@@ -224,7 +229,8 @@ each_finish_keeps = refl
 -- it leaves
 abbrev pub leaving_at : Leave → PState → Above → Bool
 leaving_at how before a =
-    list_all (λ protocol. only_if (may_leave before) (λ p. if_leads (up_goes is_ended_state a) (acted_state protocol p (leave_act how))) before) protocols
+    list_all (λ protocol. only_if (may_leave before) (λ p. if_leads (up_goes is_ended_state a) (acted_state protocol p (leave_act how)))
+    before) protocols
 
 abbrev pub leaving : Leave → PState → Bool
 leaving how before = for_kinds (leaving_at how before) (Some before)
@@ -271,7 +277,8 @@ end_expired protocol s None = (unwrap_or (chosen_state protocol s Undo) s, Some 
 end_expired protocol s (Some v) = (s, Some v)
 
 abbrev pub expiring : Kind → Bool
-expiring kind = at_ends (λ protocol s ev. goes_pair (with_up None kind (Some Undo)) protocol (end_expired protocol s ev)) (with_up None kind None)
+expiring kind = at_ends (λ protocol s ev. goes_pair (with_up None kind (Some Undo)) protocol (end_expired protocol s ev))
+    (with_up None kind None)
 
 pub each_expiry_keeps : (kind : Kind) → expiring kind ≡ true
 each_expiry_keeps Atomic = refl
@@ -301,7 +308,8 @@ same_truth false b = not b
 
 abbrev pub part_row_fits : Protocol → PState → PRow → Bool
 part_row_fits protocol before prow.Invalid = true
-part_row_fits protocol before (prow.Row next prompt) = is_part_state protocol next && same_truth (has_no_coordinator before) (has_no_coordinator next)
+part_row_fits protocol before (prow.Row next prompt) =
+    is_part_state protocol next && same_truth (has_no_coordinator before) (has_no_coordinator next)
 
 abbrev pub part_rows_fit : Notice → Protocol → PState → Bool
 part_rows_fit n protocol p = only_if (is_part_state protocol p) (λ before. part_row_fits protocol before (part_row protocol before n)) p
@@ -313,7 +321,8 @@ each_part_row_fits n = refl
 -- an act leads to such a state
 abbrev pub acts_fit : Act → Protocol → PState → Bool
 acts_fit a protocol p =
-    only_if (is_part_state protocol p) (λ before. if_leads (λ to. is_part_state protocol to && same_truth (has_no_coordinator before) (has_no_coordinator to))
+    only_if (is_part_state protocol p) (λ before. if_leads
+    (λ to. is_part_state protocol to && same_truth (has_no_coordinator before) (has_no_coordinator to))
     (acted_state protocol before a)) p
 
 pub each_act_fits : (a : Act) → list_all (λ protocol. list_all (acts_fit a protocol) parts) protocols ≡ true
@@ -322,7 +331,9 @@ each_act_fits a = refl
 
 abbrev pub drained_fits : Bool → Protocol → PState → Bool
 drained_fits failed protocol p =
-    only_if (is_part_state protocol p) (λ before. let next = state_after_act protocol before (act_when_drained before failed) in is_part_state protocol next && same_truth (has_no_coordinator before) (has_no_coordinator next)) p
+    only_if (is_part_state protocol p) (λ before. let next =
+    state_after_act protocol before (act_when_drained before failed) in is_part_state protocol next
+    && same_truth (has_no_coordinator before) (has_no_coordinator next)) p
 
 pub each_drained_fits : (failed : Bool) → list_all (λ protocol. list_all (drained_fits failed protocol) parts) protocols ≡ true
 each_drained_fits true = refl
@@ -363,14 +374,17 @@ each_act_closes a = refl
 
 -- where the state after it is open, so is the one before it
 abbrev pub no_reopening : PState → PState → Bool
-no_reopening before next = only_if (part_among (rows_lead before) next) (λ to. only_if (is_open_state to) (λ _. is_open_state before) to) next
+no_reopening before next = only_if (part_among (rows_lead before) next)
+    (λ to. only_if (is_open_state to) (λ _. is_open_state before) to) next
 
 pub rows_reopen_none : list_all (λ before. list_all (no_reopening before) parts) parts ≡ true
 rows_reopen_none = refl
 
 abbrev pub drained_reopens_none : Bool → Protocol → PState → Bool
-drained_reopens_none failed protocol before = only_if (is_open_state (state_after_act protocol before (act_when_drained before failed))) (λ p. is_open_state p) before
+drained_reopens_none failed protocol before =
+    only_if (is_open_state (state_after_act protocol before (act_when_drained before failed))) (λ p. is_open_state p) before
 
-pub each_drained_reopens_none : (failed : Bool) → list_all (λ protocol. list_all (drained_reopens_none failed protocol) parts) protocols ≡ true
+pub each_drained_reopens_none : (failed : Bool)
+    → list_all (λ protocol. list_all (drained_reopens_none failed protocol) parts) protocols ≡ true
 each_drained_reopens_none true = refl
 each_drained_reopens_none false = refl

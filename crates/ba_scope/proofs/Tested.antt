@@ -1,5 +1,6 @@
 -- A call is refused and leaves the scope, or it is done; for the calls of a scope that are tested first and then done.
-use Rattle.std.proofs.Common.{◌≡◌, ℕ, Bool, true, false, List, [], ◌∷◌, map, Option, None, Some, unwrap_or, refl, sym, ap, ◌∙◌, true≢false, if◌then◌else◌}
+use Rattle.std.proofs.Common.{◌≡◌, ℕ, Bool, true, false, List, [], ◌∷◌, map, Option, None, Some, unwrap_or, refl, sym, ap, ◌∙◌, true≢false}
+use Rattle.std.proofs.Common.{if◌then◌else◌}
 use Rattle.std.specs.List.{list_all}
 use Rattle.std.specs.Option.{option_map}
 use Rattle.std.proofs.lemmas.Bool.{and_parts}
@@ -18,7 +19,8 @@ use Rattle.ba_scope.proofs.ScopeCases.{OfRefusal, choose_cases, complete_cases, 
 use Rattle.ba_scope.specs.Fits.{are_apart, is_other_end}
 use Rattle.ba_ends.specs.Ends.{end_in_state, end_with_verdict, end_with_id, same_id, completing_end}
 use Rattle.ba_ends.specs.Parts.{part_in_state, state_after_act, acting_part}
-use Rattle.ba_scope.specs.Rules.{ScopeStep, changed_at, choose, complete, decide, done_step, expire, finish, is_expired, leave_act, leave_by, refused_step, scope_with_verdict, with_end_changed, with_up}
+use Rattle.ba_scope.specs.Rules.{ScopeStep, changed_at, choose, complete, decide, done_step, expire, finish, is_expired, leave_act}
+use Rattle.ba_scope.specs.Rules.{leave_by, refused_step, scope_with_verdict, with_end_changed, with_up}
 use Rattle.ba_scope.specs.Scope.{ScopeState}
 use Rattle.ba_scope.specs.declared.answers.Said.{Said}
 use Rattle.ba_scope.specs.declared.answers.Said.TheVariants as said

@@ -6,7 +6,8 @@ use Rattle.ba_core.specs.declared.notices.Notice.{Notice}
 use Rattle.ba_core.specs.declared.protocols.Protocol.{Protocol}
 use Rattle.ba_core.specs.declared.protocols.Verdict.{Verdict}
 use Rattle.ba_message.specs.declared.endpoints.Epr.{Epr}
-use Rattle.ba_scope.specs.Rules.{ask, choose, complete, decide, end_receive, enrol_refusal, enrolled_scope, expire, finish, leave_by, owe, refused_scope, scope_with_end, tick_end, tick_up, up_receive}
+use Rattle.ba_scope.specs.Rules.{ask, choose, complete, decide, end_receive, enrol_refusal, enrolled_scope, expire, finish, leave_by, owe}
+use Rattle.ba_scope.specs.Rules.{refused_scope, scope_with_end, tick_end, tick_up, up_receive}
 use Rattle.ba_ends.specs.Parts.{is_registering}
 use Rattle.ba_scope.specs.Scope.{ScopeState}
 

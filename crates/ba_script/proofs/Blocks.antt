@@ -1,5 +1,6 @@
 -- A block that was read stands after the bytes that were at hand: for `Lines::fill`, clause `kept`.
-use Rattle.std.proofs.Common.{◌≡◌, ℕ, ◌+◌, ◌-◌, List, ◌++◌, take, drop, slice_range, Option, None, Some, sym, ap, ◌∙◌, append_assoc, take-add, arith}
+use Rattle.std.proofs.Common.{◌≡◌, ℕ, ◌+◌, ◌-◌, List, ◌++◌, take, drop, slice_range, Option, None, Some, sym, ap, ◌∙◌, append_assoc}
+use Rattle.std.proofs.Common.{take-add, arith}
 use Rattle.std.specs.Io.KnownBytes.{Consumes, Keeps, prepend_known}
 
 -- a room begins with the bytes at hand, and n more that were taken stand after them

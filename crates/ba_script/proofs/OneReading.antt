@@ -55,7 +55,8 @@ stops_once form number (line ∷ lines) m n c d (inr (r, is, one)) (inr (q, so, 
     stops_once (form_after form q) (number + 1) lines m n c d
     (subst (λ f. StopsAt f (number + 1) lines m c) (after_one form line r q is so) one) other
 
-stops_from : (form : Option Form) (number : ℕ) (lines : List (List ℕ)) (bad column : ℕ) → StopsAt form number lines bad column → number ≤ bad
+stops_from : (form : Option Form) (number : ℕ) (lines : List (List ℕ)) (bad column : ℕ)
+    → StopsAt form number lines bad column → number ≤ bad
 stops_from form number [] bad column stops = absurd stops
 stops_from form number (line ∷ lines) bad column (inl stops) = omega (arith, stops.1)
 stops_from form number (line ∷ lines) bad column (inr (q, so, stops)) =
@@ -65,7 +66,8 @@ stops_from form number (line ∷ lines) bad column (inr (q, so, stops)) =
 first_not_bad : (form : Option Form) (number : ℕ) (lines : List (List ℕ)) (size : ℕ) (s : Script) (bad column : ℕ)
     → MeansScript form number (take size lines) s → StopsAt form number lines bad column → number + size ≤ bad
 first_not_bad form number [] size s bad column means stops = absurd stops
-first_not_bad form number (line ∷ lines) zero s bad column means stops = omega (arith, stops_from form number (line ∷ lines) bad column stops)
+first_not_bad form number (line ∷ lines) zero s bad column means stops =
+    omega (arith, stops_from form number (line ∷ lines) bad column stops)
 first_not_bad form number (line ∷ lines) (suc size) s bad column (r, later, is, s_is, means) (inl stops) =
     absurd (not_bad form r line column is stops.0)
 first_not_bad form number (line ∷ lines) (suc size) s bad column (r, later, is, s_is, means) (inr (q, so, stops)) =

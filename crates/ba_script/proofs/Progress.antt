@@ -1,5 +1,7 @@
 -- How far a script was read, by its lines.
-use Rattle.std.proofs.Common.{◌≡◌, ℕ, ◌+◌, ◌*◌, ◌<◌, ◌≤◌, true, false, nat_eq, Option, None, Some, if◌then◌else◌, List, [], ◌∷◌, ◌++◌, length, take, drop, refl, sym, ap, ◌∙◌, subst, inl, inr, append_assoc, append-nil, take-append-drop, take-add, drop-drop, take_all, arith, length-append, length-drop}
+use Rattle.std.proofs.Common.{◌≡◌, ℕ, ◌+◌, ◌*◌, ◌<◌, ◌≤◌, true, false, nat_eq, Option, None, Some, if◌then◌else◌, List, [], ◌∷◌, ◌++◌}
+use Rattle.std.proofs.Common.{length, take, drop, refl, sym, ap, ◌∙◌, subst, inl, inr, append_assoc, append-nil, take-append-drop, take-add}
+use Rattle.std.proofs.Common.{drop-drop, take_all, arith, length-append, length-drop}
 use Rattle.ba_core.specs.declared.protocols.Protocol.TheVariants.{Pc}
 use Rattle.ba_forms.specs.Readings.{IsLine, bad_column}
 use Rattle.ba_forms.specs.declared.readings.Form.{Form}
@@ -8,7 +10,8 @@ use Rattle.ba_forms.specs.declared.readings.Reading.{Reading}
 use Rattle.ba_forms.specs.declared.readings.Reading.TheVariants as reading
 use Rattle.ba_pair.specs.PairPlay.{Numbered}
 use Rattle.ba_ports.specs.Lines.{onto_first, lines_of, bytes_of}
-use Rattle.ba_script.specs.Scripts.{NumberedEvent, empty_script, form_after, onto_script, MeansScript, StopsAt, IsScript, IsBadScript, IsLongScript}
+use Rattle.ba_script.specs.Scripts.{NumberedEvent, empty_script, form_after, onto_script, MeansScript, StopsAt, IsScript, IsBadScript}
+use Rattle.ba_script.specs.Scripts.{IsLongScript}
 use Rattle.ba_script.specs.declared.scripts.Script.{Script}
 use Rattle.ba_script.specs.declared.scripts.Script.TheVariants.{Pair, World}
 use Rattle.ba_script.specs.inside.Events.{pair_event_of, world_event_of, with_events, script_of}
@@ -86,7 +89,8 @@ module _ (text : List ℕ) (chosen : Option Form) (read : ℕ) (rest : List ℕ)
     (p : Progress text chosen read rest pairs worlds) where
   -- a line more
   pub advance : (line later : List ℕ) (said : Reading) → LosesLine rest line later → IsLine chosen said line
-      → Progress text (form_after chosen said) (read + 1) later (pairs ++ pair_event_of said (read + 1)) (worlds ++ world_event_of said (read + 1))
+      → Progress text (form_after chosen said) (read + 1) later (pairs ++ pair_event_of said (read + 1))
+      (worlds ++ world_event_of said (read + 1))
   advance line later said loses is =
       let all = lines_of text in
       let next : drop read all ≡ line ∷ lines_of later = p.left ∙ loses.lines in

@@ -1,5 +1,6 @@
 -- Each text is a script, has a first bad line, or is too long: for the law `scripts_mean_one_thing`, clause `some`.
-use Rattle.std.proofs.Common.{◌≡◌, ℕ, ◌+◌, ◌<◌, ◌⊎◌, inl, inr, Bool, true, false, nat_lt, Option, None, List, [], ◌∷◌, length, take, length-take, zero, suc, refl, arith}
+use Rattle.std.proofs.Common.{◌≡◌, ℕ, ◌+◌, ◌<◌, ◌⊎◌, inl, inr, Bool, true, false, nat_lt, Option, None, List, [], ◌∷◌, length, take}
+use Rattle.std.proofs.Common.{length-take, zero, suc, refl, arith}
 use Rattle.std.proofs.lemmas.Bool.{ltb-true, ltb-false}
 use Rattle.ba_forms.specs.declared.readings.Form.{Form}
 use Rattle.ba_forms.proofs.Meanings.{line_means}
@@ -29,7 +30,8 @@ lines_decided form number (line ∷ lines) =
     ]
 
 -- a line that is the first bad one of the first lines is the first bad one of all
-stops_early : (form : Option Form) (number size : ℕ) (lines : List (List ℕ)) (bad column : ℕ) → StopsAt form number (take size lines) bad column
+stops_early : (form : Option Form) (number size : ℕ) (lines : List (List ℕ)) (bad column : ℕ)
+    → StopsAt form number (take size lines) bad column
     → StopsAt form number lines bad column
 stops_early form number zero lines bad column stops = absurd stops
 stops_early form number (suc size) [] bad column stops = absurd stops

@@ -1,5 +1,6 @@
 -- How far a script was read from a source, where the source tells its bytes.
-use Rattle.std.proofs.Common.{◌≡◌, ℕ, ◌+◌, ◌<◌, ◌≤◌, List, [], ◌∷◌, ◌++◌, length, take, drop, Bool, if◌then◌else◌, Option, None, Some, IfSome, inl, inr, refl, sym, ap, ◌∙◌, subst, append_assoc, arith, length-append, length-drop}
+use Rattle.std.proofs.Common.{◌≡◌, ℕ, ◌+◌, ◌<◌, ◌≤◌, List, [], ◌∷◌, ◌++◌, length, take, drop, Bool, if◌then◌else◌, Option, None, Some}
+use Rattle.std.proofs.Common.{IfSome, inl, inr, refl, sym, ap, ◌∙◌, subst, append_assoc, arith, length-append, length-drop}
 use Rattle.std.proofs.lemmas.Bool.{lt-ltb}
 use Rattle.std.specs.Io.KnownBytes.{IsAtEnd, Keeps, prepend_known}
 use Rattle.ba_forms.specs.Readings.{IsLine, bad_column, bad_unless_remark}
@@ -33,7 +34,8 @@ begun_of (Some text) = begun text
 pub stands_first : (a : Option (List ℕ)) → StandsAt a a [] None 0 [] []
 stands_first a = record { few = omega arith; progress = begun_of a }
 
-moved : (a now later : Option (List ℕ)) (form : Option Form) (read : ℕ) (pairs : List Numbered) (worlds : List NumberedEvent) → ProgressOf a now form read pairs worlds
+moved : (a now later : Option (List ℕ)) (form : Option Form) (read : ℕ) (pairs : List Numbered) (worlds : List NumberedEvent)
+    → ProgressOf a now form read pairs worlds
     → Keeps now later
     → ProgressOf a later form read pairs worlds
 moved None now later form read pairs worlds p kept = tt
@@ -42,7 +44,8 @@ moved (Some text) (Some rest) None form read pairs worlds p kept = absurd kept
 moved (Some text) (Some rest) (Some same) form read pairs worlds p kept = subst (λ t. Progress text form read t pairs worlds) (sym kept) p
 
 -- more bytes were read
-pub stands_on : (a s t : Option (List ℕ)) (b c : List ℕ) (form : Option Form) (read : ℕ) (pairs : List Numbered) (worlds : List NumberedEvent)
+pub stands_on : (a s t : Option (List ℕ)) (b c : List ℕ) (form : Option Form) (read : ℕ) (pairs : List Numbered)
+    (worlds : List NumberedEvent)
     → StandsAt a s b form read pairs worlds
     → Keeps (prepend_known b s) (prepend_known c t) → length c ≤ lookahead → StandsAt a t c form read pairs worlds
 stands_on a s t b c form read pairs worlds at kept few =
@@ -60,9 +63,11 @@ some_longer [] longer = absurd longer
 some_longer (line ∷ lines) longer = (line, lines, refl, longer)
 
 module _ (form : Option Form) (read : ℕ) (pairs : List Numbered) (worlds : List NumberedEvent) (b : List ℕ) where
-  advanced : (a s : Option (List ℕ)) (n : ℕ) (reading : Reading) → ProgressOf a (prepend_known b s) form read pairs worlds → IsNextLine b s n
+  advanced : (a s : Option (List ℕ)) (n : ℕ) (reading : Reading) → ProgressOf a (prepend_known b s) form read pairs worlds
+      → IsNextLine b s n
       → IsLine form reading (take n b)
-      → ProgressOf a (prepend_known (drop (n + 1) b) s) (form_after form reading) (read + 1) (pairs ++ pair_event_of reading (read + 1)) (worlds ++ world_event_of reading (read + 1))
+      → ProgressOf a (prepend_known (drop (n + 1) b) s) (form_after form reading) (read + 1) (pairs ++ pair_event_of reading (read + 1))
+      (worlds ++ world_event_of reading (read + 1))
   advanced None s n reading p next is = tt
   advanced (Some text) None n reading p next is = absurd p
   advanced (Some text) (Some left) n reading p next is =
@@ -74,7 +79,8 @@ module _ (form : Option Form) (read : ℕ) (pairs : List Numbered) (worlds : Lis
   -- a line more
   pub advance_of : (a s : Option (List ℕ)) (n : ℕ) (reading : Reading) → StandsAt a s b form read pairs worlds → IsNextLine b s n
       → IsLine form reading (take n b)
-      → StandsAt a s (drop (n + 1) b) (form_after form reading) (read + 1) (pairs ++ pair_event_of reading (read + 1)) (worlds ++ world_event_of reading (read + 1))
+      → StandsAt a s (drop (n + 1) b) (form_after form reading) (read + 1) (pairs ++ pair_event_of reading (read + 1))
+      (worlds ++ world_event_of reading (read + 1))
   advance_of a s n reading at next is = record {
     few = omega (arith, length-drop (n + 1) b, at.few);
     progress = advanced a s n reading at.progress next is;

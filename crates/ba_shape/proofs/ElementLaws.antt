@@ -1,5 +1,6 @@
 -- What is read of an element, said of its first part and of the rest.
-use Rattle.std.proofs.Common.{◌≡◌, ℕ, ◌+◌, ◌≤◌, Bool, true, false, List, [], ◌∷◌, ◌++◌, map, length, refl, sym, ap, ◌∙◌, arith, length-append, if◌then◌else◌, ◌&&◌}
+use Rattle.std.proofs.Common.{◌≡◌, ℕ, ◌+◌, ◌≤◌, Bool, true, false, List, [], ◌∷◌, ◌++◌, map, length, refl, sym, ap, ◌∙◌, arith}
+use Rattle.std.proofs.Common.{length-append, if◌then◌else◌, ◌&&◌}
 use Rattle.std.specs.List.{sum_by, list_all}
 use Rattle.std.proofs.lemmas.List.Sums.{sum_by-cons}
 use Rattle.std.proofs.lemmas.List.Folds.{list_all-append}
@@ -18,7 +19,8 @@ use Rattle.ba_shape.specs.Elements.{trim_end, number_after, first_child, first_f
 count_joined : (cs : List Content) → length (joined (map (λ c. (within c).elements) cs)) ≡ sum_by (λ c. length (within c).elements) cs
 count_joined [] = refl
 count_joined (c ∷ cs) =
-    length-append (within c).elements (joined (map (λ c. (within c).elements) cs)) ∙ ap (λ n. length (within c).elements + n) (count_joined cs)
+    length-append (within c).elements (joined (map (λ c. (within c).elements) cs))
+    ∙ ap (λ n. length (within c).elements + n) (count_joined cs)
     ∙ sym (sum_by-cons (λ c. length (within c).elements) c cs)
 
 pub count_in_tree : (t : Tree) → length (elements t) ≡ 1 + sum_by (λ c. length (within c).elements) t.content
@@ -63,10 +65,13 @@ end_kept (c ∷ cs) b w =
 
 -- ---- the first child that passes
 
-pub passed_child : (passes : Tree → Bool) (n : ℕ) (t : Tree) (rest : List Content) → first_child passes n (Child t ∷ rest) ≡ or_found (passes t) (record { tree = t; number = n; next = number_after n t; rest = rest }) (first_child passes (number_after n t) rest)
+pub passed_child : (passes : Tree → Bool) (n : ℕ) (t : Tree) (rest : List Content)
+    → first_child passes n (Child t ∷ rest) ≡ or_found (passes t) (record { tree = t; number = n; next = number_after n t; rest = rest })
+    (first_child passes (number_after n t) rest)
 passed_child passes n t rest = ap (λ c. first_from passes n rest c (λ m. first_child passes m rest)) (outs-Child t)
 
-pub passed_text : (passes : Tree → Bool) (n : ℕ) (t : List ℕ) (rest : List Content) → first_child passes n (Text t ∷ rest) ≡ first_child passes n rest
+pub passed_text : (passes : Tree → Bool) (n : ℕ) (t : List ℕ) (rest : List Content)
+    → first_child passes n (Text t ∷ rest) ≡ first_child passes n rest
 passed_text passes n t rest = ap (λ c. first_from passes n rest c (λ m. first_child passes m rest)) (outs-Text t)
 
 -- ---- parameters that are there

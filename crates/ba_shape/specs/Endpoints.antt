@@ -109,4 +109,5 @@ parameters_content [] = []
 parameters_content (p ∷ more) = Child (parameters_element (p ∷ more)) ∷ []
 
 abbrev pub endpoint_element : Name → Epr → Tree
-endpoint_element n e = bare_element n (Child (bare_element (wsa_name (codes "Address")) (Text e.address ∷ [])) ∷ parameters_content e.parameters)
+endpoint_element n e = bare_element n (Child (bare_element (wsa_name (codes "Address")) (Text e.address ∷ []))
+    ∷ parameters_content e.parameters)

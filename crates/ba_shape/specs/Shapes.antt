@@ -26,7 +26,8 @@ is_limit Limit = true
 -- `b` comes before `a`: by its number, and at one number a mismatch before a limit
 abbrev pub comes_before : Misfit → Misfit → Bool
 comes_before b a =
-    if is_limit a.why then (if is_limit b.why then nat_lt b.number a.number else nat_lt b.number (a.number + 1)) else nat_lt b.number a.number
+    if is_limit a.why then (if is_limit b.why then nat_lt b.number a.number else nat_lt b.number (a.number + 1)) else nat_lt
+    b.number a.number
 
 -- the one of two that comes first
 abbrev pub earlier_misfit : Option Misfit → Option Misfit → Option Misfit
@@ -76,7 +77,8 @@ second_misfit (Some found) = Some (mismatch_at found.number)
 
 abbrev pub misfit_by_first : {F : Type 0} → (F → Look) → Line F → (Tree → Bool) → ℕ → Option Found → Option Misfit
 misfit_by_first look row named n None = missing_misfit row.need n
-misfit_by_first look row named n (Some found) = earlier_misfit (look row.form found.number found.tree) (second_misfit (first_child named found.next found.rest))
+misfit_by_first look row named n (Some found) =
+    earlier_misfit (look row.form found.number found.tree) (second_misfit (first_child named found.next found.rest))
 
 abbrev pub row_misfit : {F : Type 0} → (F → Look) → Line F → Look
 row_misfit look row n t = misfit_by_first look row (names row t) n (first_child (names row t) (in_u32 (n + 1)) t.content)

@@ -1,5 +1,6 @@
 -- A parameter with its mark is one, and is read back without it: for the law on envelopes.
-use Rattle.std.proofs.Common.{◌≡◌, ℕ, Bool, true, false, not, ◌&&◌, ◌||◌, List, [], ◌∷◌, ◌++◌, Option, Some, map, filter, cond, if◌then◌else◌, codes, refl, sym, ap, ◌∙◌}
+use Rattle.std.proofs.Common.{◌≡◌, ℕ, Bool, true, false, not, ◌&&◌, ◌||◌, List, [], ◌∷◌, ◌++◌, Option, Some, map, filter, cond}
+use Rattle.std.proofs.Common.{if◌then◌else◌, codes, refl, sym, ap, ◌∙◌}
 use Rattle.std.specs.Cmp.{first_so, second_so}
 use Rattle.std.specs.List.{list_any}
 use Rattle.std.specs.Ordering.{is_lt}
@@ -7,7 +8,8 @@ use Rattle.ba_message.specs.Endpoints.{are_unmarked, marks_parameter}
 use Rattle.ba_shape.specs.Endpoints.{unmarked_tree}
 use Rattle.ba_shape.proofs.WrittenEndpoints.{unmarked_stays}
 use Rattle.ba_soap.specs.Elements.{marked_tree, parameter_mark, with_attribute}
-use Rattle.ba_soap.specs.Envelopes.{Dialect, flag_of, has_bad_flag, header_of, is_looked_at, is_unknown, is_left_out_or_one_of, is_not_understood, is_parameter, option_is_one_of, value_at}
+use Rattle.ba_soap.specs.Envelopes.{Dialect, flag_of, has_bad_flag, header_of, is_looked_at, is_unknown, is_left_out_or_one_of}
+use Rattle.ba_soap.specs.Envelopes.{is_not_understood, is_parameter, option_is_one_of, value_at}
 use Rattle.ba_tree.specs.declared.trees.Attribute.{Attribute}
 use Rattle.ba_tree.specs.declared.trees.Tree.{Tree}
 use Rattle.ba_tree.specs.Namespaces.{wsa_space}

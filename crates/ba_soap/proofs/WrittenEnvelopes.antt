@@ -1,5 +1,7 @@
 -- An envelope is read back from its element: for the clauses `reads_back`.
-use Rattle.std.proofs.Common.{◌≡◌, ℕ, suc, ◌+◌, Bool, true, false, not, ◌&&◌, ◌||◌, List, [], ◌∷◌, ◌++◌, Option, Some, None, Result, Ok, Err, map, filter, find, length, cond, nat_lt, bytes_eq, if◌then◌else◌, codes, append-nil, refl, sym, ap, ◌∙◌, arith}
+use Rattle.std.proofs.Common.{◌≡◌, ℕ, suc, ◌+◌, Bool, true, false, not, ◌&&◌, ◌||◌, List, [], ◌∷◌, ◌++◌, Option, Some, None, Result, Ok}
+use Rattle.std.proofs.Common.{Err, map, filter, find, length, cond, nat_lt, bytes_eq, if◌then◌else◌, codes, append-nil, refl, sym, ap, ◌∙◌}
+use Rattle.std.proofs.Common.{arith}
 use Rattle.std.specs.Prelude.{IfOk}
 use Rattle.std.proofs.lemmas.Bool.Decides.{nat_tests}
 use Rattle.std.proofs.lemmas.List.Elements.{filter-append}
@@ -19,8 +21,13 @@ use Rattle.ba_soap.specs.declared.headers.Header.TheVariants as header
 use Rattle.ba_soap.specs.declared.headers.ReplyTo.TheVariants as reply
 use Rattle.ba_soap.specs.declared.headers.SoapFault.{SoapFault}
 use Rattle.ba_soap.specs.declared.headers.SoapFault.TheVariants as fault
-use Rattle.ba_soap.specs.Elements.{IsPlainEnvelope, envelope_element, header_blocks, is_bare_text, is_none_or_bare, marked_tree, optional_block, soap_element, text_block, text_blocks}
-use Rattle.ba_soap.specs.Envelopes.{Dialect, action_fault, answer_by_body, answer_by_parts, answer_unless_refused, block_fault, envelope_answer, envelope_said, first_fault, first_invalid_header, first_refusal, has_bad_flag, has_text, header_name, header_of, header_text, invalid_header, is_header, is_looked_at, is_not_understood, is_parameter, is_reply_relation, lacks_address, option_text, refusal_by, reply_of, stands_once, text_or_none}
+use Rattle.ba_soap.specs.Elements.{IsPlainEnvelope, envelope_element, header_blocks, is_bare_text, is_none_or_bare, marked_tree}
+use Rattle.ba_soap.specs.Elements.{optional_block, soap_element, text_block, text_blocks}
+use Rattle.ba_soap.specs.Envelopes.{Dialect, action_fault, answer_by_body, answer_by_parts, answer_unless_refused, block_fault}
+use Rattle.ba_soap.specs.Envelopes.{envelope_answer, envelope_said, first_fault, first_invalid_header, first_refusal, has_bad_flag}
+use Rattle.ba_soap.specs.Envelopes.{has_text, header_name, header_of, header_text, invalid_header, is_header, is_looked_at}
+use Rattle.ba_soap.specs.Envelopes.{is_not_understood, is_parameter, is_reply_relation, lacks_address, option_text, refusal_by, reply_of}
+use Rattle.ba_soap.specs.Envelopes.{stands_once, text_or_none}
 use Rattle.ba_soap.proofs.MarkLemmas.{are_parameters, are_read_back, none_flagged, none_looked_at, none_unknown}
 use Rattle.ba_tree.specs.Characters.{has_bare_ends}
 use Rattle.ba_tree.specs.declared.trees.Tree.{Tree}

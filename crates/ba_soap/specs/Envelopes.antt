@@ -1,7 +1,8 @@
 -- Believe: these are the envelopes of SOAP 1.1 (section 4) with the headers of WS-Addressing 1.0 (Core, section 3): which
 -- refusal comes first, and what an envelope says.
 -- What differs between versions of SOAP is a sheet.
-use Rattle.std.specs.Prelude.{bytes_eq, ◌≡◌, ℕ, Bool, true, false, not, ◌&&◌, ◌||◌, List, [], ◌∷◌, ◌++◌, Option, Some, None, Result, Ok, Err, if◌then◌else◌, filter, find, map, codes}
+use Rattle.std.specs.Prelude.{bytes_eq, ◌≡◌, ℕ, Bool, true, false, not, ◌&&◌, ◌||◌, List, [], ◌∷◌, ◌++◌, Option, Some, None, Result, Ok}
+use Rattle.std.specs.Prelude.{Err, if◌then◌else◌, filter, find, map, codes}
 use Rattle.std.specs.List.{list_any, position}
 use Rattle.ba_tree.specs.declared.trees.Tree.{Tree}
 use Rattle.ba_tree.specs.declared.trees.Name.{Name}
@@ -132,7 +133,8 @@ lacks_address h b = false
 
 -- a header that stands a second time, is empty, or is a ReplyTo without Address
 abbrev pub is_invalid : Header → List Tree → Tree → Bool
-is_invalid h before b = (stands_once h && list_any (is_header h) before) || ((has_text h && not (is_there (text_of b))) || lacks_address h b)
+is_invalid h before b = (stands_once h && list_any (is_header h) before)
+    || ((has_text h && not (is_there (text_of b))) || lacks_address h b)
 
 abbrev pub invalid_header : Option Header → List Tree → Tree → Option SoapFault
 invalid_header None before b = None
@@ -158,11 +160,13 @@ header_text h mine = option_text (find (is_header h) mine)
 
 -- a RelatesTo that says to which message this is a reply
 abbrev pub is_reply_relation : Tree → Bool
-is_reply_relation b = is_header header.RelatesTo b && is_left_out_or_one_of (codes "http://www.w3.org/2005/08/addressing/reply" ∷ []) (value_at [] (codes "RelationshipType") b.attributes)
+is_reply_relation b = is_header header.RelatesTo b && is_left_out_or_one_of (codes "http://www.w3.org/2005/08/addressing/reply" ∷ [])
+    (value_at [] (codes "RelationshipType") b.attributes)
 
 abbrev pub reply_of : Option Tree → ReplyTo
 reply_of None = reply.Absent
-reply_of (Some b) = if bytes_eq (text_in (child_at address_line b)) (codes "http://www.w3.org/2005/08/addressing/anonymous") then reply.Anonymous else reply.Elsewhere
+reply_of (Some b) = if bytes_eq (text_in (child_at address_line b)) (codes "http://www.w3.org/2005/08/addressing/anonymous") then
+    reply.Anonymous else reply.Elsewhere
 
 abbrev pub text_or_none : Option (List ℕ) → List ℕ
 text_or_none None = []
@@ -225,7 +229,8 @@ answer_by_parts d (x ∷ []) =
     if is_part d (codes "Body") x then answer_by_body d [] (children x.content)
     else (if is_part d (codes "Header") x then Err fault.NoBody else Err fault.Shape)
 answer_by_parts d (x ∷ y ∷ []) =
-    if is_part d (codes "Header") x && is_part d (codes "Body") y then answer_by_body d (children x.content) (children y.content) else Err fault.Shape
+    if is_part d (codes "Header") x && is_part d (codes "Body") y then answer_by_body d (children x.content) (children y.content) else
+    Err fault.Shape
 answer_by_parts d (x ∷ y ∷ z ∷ more) = Err fault.Shape
 
 abbrev pub envelope_answer : Dialect → Tree → Result Envelope SoapFault

@@ -28,8 +28,10 @@ use Rattle.ba_record.specs.declared.records.Record.{Record}
 use Rattle.ba_record.specs.declared.records.Record.TheVariants as journal
 use Rattle.ba_scope.proofs.Lists.{by_test, not_true}
 use Rattle.ba_ends.specs.Ends.{end_after_notice, end_after_row, end_asking, end_owing, tick_of_end, end_of}
-use Rattle.ba_ends.specs.Parts.{enrolled_part, part_asking, part_in_state, part_owing, refused_part, tick_of_part, has_no_coordinator, is_registering}
-use Rattle.ba_scope.specs.Rules.{ScopeStep, choose, complete, decide, enrol_refusal, expire, finish, leave_act, leave_by, state_at_tick, tick_up, with_end_changed, with_up_moved}
+use Rattle.ba_ends.specs.Parts.{enrolled_part, part_asking, part_in_state, part_owing, refused_part, tick_of_part, has_no_coordinator}
+use Rattle.ba_ends.specs.Parts.{is_registering}
+use Rattle.ba_scope.specs.Rules.{ScopeStep, choose, complete, decide, enrol_refusal, expire, finish, leave_act, leave_by, state_at_tick}
+use Rattle.ba_scope.specs.Rules.{tick_up, with_end_changed, with_up_moved}
 use Rattle.ba_scope.specs.Scope.{ScopeState, is_full, is_sealed, takes_no_more}
 use Rattle.ba_scope.specs.declared.answers.EnrolFault.{EnrolFault}
 use Rattle.ba_scope.specs.declared.answers.EnrolFault.TheVariants.{NotYetEnrolled, Sealed, Full}
@@ -44,9 +46,17 @@ use Rattle.ba_steps.specs.declared.answers.TheConstants.{BAD_ADDRESS, CHILD_PART
 use Rattle.ba_steps.specs.declared.answers.Wake.{Wake}
 use Rattle.ba_steps.specs.declared.answers.Wake.TheVariants as wake
 use Rattle.ba_steps.specs.Addresses.{coordinator_of}
-use Rattle.ba_steps.specs.Node.{HasPart, NodeState, EndPlace, PartPlace, lone, upward, counter, end_place, id_at, next_id, part_place, scope_with_id, with_lone, with_new_part, with_part_changed, with_scope}
-use Rattle.ba_steps.specs.Steps.{NodeStep, accepted_step, act_at, again_step, ask_end, ask_part, choice_number, complete_number, create_scope, enrol_unless, enrolled_before, fault_step, if_found, if_placed, is_get_status, is_of_kind, is_registering_state, is_status, new_part, on_act, on_ask, on_choose, on_complete, on_create, on_decide, on_end_asked, on_end_notice, on_end_row, on_enrolled, on_finish, on_join, on_leave, on_lone_row, on_part_asked, on_part_heard, on_place_notice, on_refused_by, on_register, on_up_row, register_at, refusal_number, refusal_step, reply_step, rule_step, same_end_state, same_part_state, same_protocol, up_act_step, wake_of_choice, wake_of_end, wake_of_up, written_step}
-use Rattle.ba_steps.specs.Ticks.{TickStep, end_letter, letter_step, part_letter, register_letter, tick_at_end, tick_at_part, tick_at_scope, tick_lone, tick_step, tick_upward, ticked_step}
+use Rattle.ba_steps.specs.Node.{HasPart, NodeState, EndPlace, PartPlace, lone, upward, counter, end_place, id_at, next_id, part_place}
+use Rattle.ba_steps.specs.Node.{scope_with_id, with_lone, with_new_part, with_part_changed, with_scope}
+use Rattle.ba_steps.specs.Steps.{NodeStep, accepted_step, act_at, again_step, ask_end, ask_part, choice_number, complete_number}
+use Rattle.ba_steps.specs.Steps.{create_scope, enrol_unless, enrolled_before, fault_step, if_found, if_placed, is_get_status, is_of_kind}
+use Rattle.ba_steps.specs.Steps.{is_registering_state, is_status, new_part, on_act, on_ask, on_choose, on_complete, on_create, on_decide}
+use Rattle.ba_steps.specs.Steps.{on_end_asked, on_end_notice, on_end_row, on_enrolled, on_finish, on_join, on_leave, on_lone_row}
+use Rattle.ba_steps.specs.Steps.{on_part_asked, on_part_heard, on_place_notice, on_refused_by, on_register, on_up_row, register_at}
+use Rattle.ba_steps.specs.Steps.{refusal_number, refusal_step, reply_step, rule_step, same_end_state, same_part_state, same_protocol}
+use Rattle.ba_steps.specs.Steps.{up_act_step, wake_of_choice, wake_of_end, wake_of_up, written_step}
+use Rattle.ba_steps.specs.Ticks.{TickStep, end_letter, letter_step, part_letter, register_letter, tick_at_end, tick_at_part, tick_at_scope}
+use Rattle.ba_steps.specs.Ticks.{tick_lone, tick_step, tick_upward, ticked_step}
 use Rattle.ba_scope.proofs.ScopeCases.{neither_right}
 use Rattle.ba_steps.proofs.Places.{EndStands, LoneStands, UpStands, Stands, end_found, place_cases}
 

@@ -1,5 +1,6 @@
 -- A step that keeps a record changes the node; for the law steps_without_a_record_change_nothing.
-use Rattle.std.proofs.Common.{◌≡◌, ℕ, Bool, true, false, not, ◌&&◌, ◌||◌, List, [], ◌∷◌, ◌++◌, map, nat_eq, Option, None, Some, is_none, refl, sym, ap, ◌∙◌, subst, arith, true≢false, if◌then◌else◌}
+use Rattle.std.proofs.Common.{◌≡◌, ℕ, Bool, true, false, not, ◌&&◌, ◌||◌, List, [], ◌∷◌, ◌++◌, map, nat_eq, Option, None, Some, is_none}
+use Rattle.std.proofs.Common.{refl, sym, ap, ◌∙◌, subst, arith, true≢false, if◌then◌else◌}
 use Rattle.std.specs.List.{list_all}
 use Rattle.std.proofs.lemmas.Bool.{and_parts}
 use Rattle.std.proofs.lemmas.Bool.Decides.{nat_tests}
@@ -28,9 +29,11 @@ use Rattle.ba_record.specs.declared.records.Record.{Record}
 use Rattle.ba_scope.proofs.Calls.{led, ticked_part}
 use Rattle.ba_scope.proofs.Lists.{some_branch}
 use Rattle.ba_scope.proofs.Tables.{if_leads}
-use Rattle.ba_ends.specs.Ends.{Tick, end_after_notice, end_after_row, end_asking, end_in_state, end_owing, end_with_verdict, end_with_verdict_if_none, tick_of_end, same_id}
+use Rattle.ba_ends.specs.Ends.{Tick, end_after_notice, end_after_row, end_asking, end_in_state, end_owing, end_with_verdict}
+use Rattle.ba_ends.specs.Ends.{end_with_verdict_if_none, tick_of_end, same_id}
 use Rattle.ba_ends.specs.Parts.{enrolled_part, part_asking, part_in_state, part_owing, refused_part, tick_of_part}
-use Rattle.ba_scope.specs.Rules.{ScopeStep, changed_at, choose, complete, decide, expire, finish, is_expired, leave_act, leave_by, part_at_tick, scope_with_end, state_at_tick, tick_up, with_end_changed, with_up, with_up_moved}
+use Rattle.ba_scope.specs.Rules.{ScopeStep, changed_at, choose, complete, decide, expire, finish, is_expired, leave_act, leave_by}
+use Rattle.ba_scope.specs.Rules.{part_at_tick, scope_with_end, state_at_tick, tick_up, with_end_changed, with_up, with_up_moved}
 use Rattle.ba_scope.specs.Scope.{ScopeState}
 use Rattle.ba_scope.specs.declared.answers.Said.{Said}
 use Rattle.ba_scope.specs.declared.answers.Said.TheVariants as said
@@ -39,10 +42,13 @@ use Rattle.ba_ends.specs.declared.parts.Part.{Part}
 use Rattle.ba_steps.specs.declared.inputs.Input.{Input}
 use Rattle.ba_steps.specs.declared.inputs.Input.TheVariants as input
 use Rattle.ba_steps.specs.Lawful.{Event, given, ticked, change}
-use Rattle.ba_steps.specs.Node.{Among, EndPlace, NodeState, PartPlace, nowhere, lone, upward, next_id, part_in_place_of, scope_in_place_of, with_lone, with_part_changed, with_scope}
+use Rattle.ba_steps.specs.Node.{Among, EndPlace, NodeState, PartPlace, nowhere, lone, upward, next_id, part_in_place_of, scope_in_place_of}
+use Rattle.ba_steps.specs.Node.{with_lone, with_part_changed, with_scope}
 use Rattle.ba_steps.specs.Steps.{NodeStep, is_registering_state, node_step, same_end_state, same_part_state}
 use Rattle.ba_steps.specs.Ticks.{TickStep, tick_step}
-use Rattle.ba_steps.proofs.Cases.{act_cases, ask_cases, create_cases, end_notice_cases, end_ticks, enrolled_cases, join_cases, on_choose_cases, on_complete_cases, on_decide_cases, on_finish_cases, on_leave_cases, part_notice_cases, refused_cases, register_cases, tick_cases, up_acts, up_talks}
+use Rattle.ba_steps.proofs.Cases.{act_cases, ask_cases, create_cases, end_notice_cases, end_ticks, enrolled_cases, join_cases}
+use Rattle.ba_steps.proofs.Cases.{on_choose_cases, on_complete_cases, on_decide_cases, on_finish_cases, on_leave_cases, part_notice_cases}
+use Rattle.ba_steps.proofs.Cases.{refused_cases, register_cases, tick_cases, up_acts, up_talks}
 use Rattle.ba_steps.proofs.Members.{number_is_same, same_id_is, stays_among}
 use Rattle.ba_steps.proofs.Places.{EndStands, Stands, first_is, scope_found}
 use Rattle.ba_scope.proofs.ScopeCases.{choose_cases, complete_cases, decide_cases, finish_cases, leave_cases}

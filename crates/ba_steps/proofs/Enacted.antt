@@ -1,6 +1,7 @@
 -- A record tells its step: what happened, enacted again, leads to the same node and keeps the same record; for the law
 -- a_record_tells_its_step.
-use Rattle.std.proofs.Common.{◌≡◌, ℕ, ◌+◌, ◌-◌, ◌<◌, ◌^◌, Bool, true, false, ◌&&◌, min, nat_eq, Option, None, Some, is_some, unwrap_or, refl, sym, ap, ◌∙◌, subst, arith, true≢false, if◌then◌else◌}
+use Rattle.std.proofs.Common.{◌≡◌, ℕ, ◌+◌, ◌-◌, ◌<◌, ◌^◌, Bool, true, false, ◌&&◌, min, nat_eq, Option, None, Some, is_some, unwrap_or}
+use Rattle.std.proofs.Common.{refl, sym, ap, ◌∙◌, subst, arith, true≢false, if◌then◌else◌}
 use Rattle.std.specs.Option.{option_and_then, option_map}
 use Rattle.std.proofs.lemmas.Bool.{and_parts}
 use Rattle.std.proofs.lemmas.Bool.Decides.{nat_tests}
@@ -30,11 +31,14 @@ use Rattle.ba_scope.specs.Scope.{ScopeState}
 use Rattle.ba_ends.specs.declared.parts.Part.{Part}
 use Rattle.ba_steps.specs.declared.inputs.Input.TheVariants as input
 use Rattle.ba_steps.specs.Fits.{IsIdAt, NodeFits}
-use Rattle.ba_steps.specs.Lawful.{Event, given, ticked, IsStepOf, act_event, after_record, change, chosen_event, create_event, current_context, enacted_again, is_next, last_moment, notice_event, refused_event}
+use Rattle.ba_steps.specs.Lawful.{Event, given, ticked, IsStepOf, act_event, after_record, change, chosen_event, create_event}
+use Rattle.ba_steps.specs.Lawful.{current_context, enacted_again, is_next, last_moment, notice_event, refused_event}
 use Rattle.ba_steps.specs.Node.{NodeState, PartPlace, upward, counter, end_place, id_at, next_id, part_place, scope_with_id}
 use Rattle.ba_steps.specs.Steps.{NodeStep, choice_number, complete_number, deadline_after, is_get_status, refusal_number}
 use Rattle.ba_steps.specs.Ticks.{TickStep}
-use Rattle.ba_steps.proofs.Cases.{act_cases, ask_cases, create_cases, end_notice_cases, enrolled_cases, join_cases, on_choose_cases, on_complete_cases, on_decide_cases, on_finish_cases, on_leave_cases, part_notice_cases, refused_cases, register_cases, tick_cases}
+use Rattle.ba_steps.proofs.Cases.{act_cases, ask_cases, create_cases, end_notice_cases, enrolled_cases, join_cases, on_choose_cases}
+use Rattle.ba_steps.proofs.Cases.{on_complete_cases, on_decide_cases, on_finish_cases, on_leave_cases, part_notice_cases, refused_cases}
+use Rattle.ba_steps.proofs.Cases.{register_cases, tick_cases}
 use Rattle.ba_steps.proofs.Members.{id_by_number}
 use Rattle.ba_steps.proofs.Objects.{one_scope}
 use Rattle.ba_steps.proofs.Places.{UpStands, place_cases, scope_found, stands_is}

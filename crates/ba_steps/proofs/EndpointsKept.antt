@@ -21,12 +21,16 @@ use Rattle.ba_steps.specs.declared.inputs.Input.{Input}
 use Rattle.ba_steps.specs.declared.inputs.Input.TheVariants as input
 use Rattle.ba_steps.specs.Endpoints.{AllReachable, GivesFit, IsReachable, input_endpoints, part_endpoints, scope_endpoints}
 use Rattle.ba_steps.specs.Lawful.{Event, given, ticked, change}
-use Rattle.ba_steps.specs.Node.{Among, NodeState, PartPlace, nowhere, lone, upward, new_node, next_id, part_in_place_of, scope_in_place_of, with_lone, with_new_part, with_new_scope, with_part_changed, with_scope}
+use Rattle.ba_steps.specs.Node.{Among, NodeState, PartPlace, nowhere, lone, upward, new_node, next_id, part_in_place_of, scope_in_place_of}
+use Rattle.ba_steps.specs.Node.{with_lone, with_new_part, with_new_scope, with_part_changed, with_scope}
 use Rattle.ba_steps.specs.Steps.{NodeStep, deadline_after, new_part, node_step}
 use Rattle.ba_steps.specs.Ticks.{TickStep, tick_step}
-use Rattle.ba_steps.proofs.Cases.{act_cases, ask_cases, create_cases, end_notice_cases, enrolled_cases, join_cases, on_choose_cases, on_complete_cases, on_decide_cases, on_finish_cases, on_leave_cases, part_notice_cases, refused_cases, register_cases, tick_cases}
+use Rattle.ba_steps.proofs.Cases.{act_cases, ask_cases, create_cases, end_notice_cases, enrolled_cases, join_cases, on_choose_cases}
+use Rattle.ba_steps.proofs.Cases.{on_complete_cases, on_decide_cases, on_finish_cases, on_leave_cases, part_notice_cases, refused_cases}
+use Rattle.ba_steps.proofs.Cases.{register_cases, tick_cases}
 use Rattle.ba_steps.proofs.Members.{all_append, all_among, all_left, all_right, among_map}
-use Rattle.ba_steps.proofs.Own.{SameKept, asking_who, choose_own, complete_own, decide_own, end_changed, expire_own, finish_own, leave_own, moved_own, notice_who, owing_who, tick_up_own, tick_who}
+use Rattle.ba_steps.proofs.Own.{SameKept, asking_who, choose_own, complete_own, decide_own, end_changed, expire_own, finish_own, leave_own}
+use Rattle.ba_steps.proofs.Own.{moved_own, notice_who, owing_who, tick_up_own, tick_who}
 use Rattle.ba_steps.proofs.Places.{Stands, scope_found}
 use Rattle.ba_tree.specs.Trees.{joined}
 

@@ -32,7 +32,9 @@ use Rattle.ba_steps.specs.Lawful.{Event, given, ticked, change}
 use Rattle.ba_steps.specs.Node.{EndPlace, NodeState, PartPlace, lone, upward, counter, last, next_id, scope_with_id}
 use Rattle.ba_steps.specs.Steps.{NodeStep, choice_number, node_step, refusal_number}
 use Rattle.ba_steps.specs.Ticks.{TickStep, tick_step}
-use Rattle.ba_steps.proofs.Cases.{act_cases, ask_cases, create_cases, end_notice_cases, enrolled_cases, join_cases, on_choose_cases, on_complete_cases, on_decide_cases, on_finish_cases, on_leave_cases, part_notice_cases, refused_cases, register_cases, tick_cases}
+use Rattle.ba_steps.proofs.Cases.{act_cases, ask_cases, create_cases, end_notice_cases, enrolled_cases, join_cases, on_choose_cases}
+use Rattle.ba_steps.proofs.Cases.{on_complete_cases, on_decide_cases, on_finish_cases, on_leave_cases, part_notice_cases, refused_cases}
+use Rattle.ba_steps.proofs.Cases.{register_cases, tick_cases}
 use Rattle.ba_steps.proofs.Enacted.{counter_at, some_is}
 use Rattle.ba_steps.proofs.Objects.{end_here, part_here, scope_here, up_here}
 use Rattle.ba_steps.proofs.Places.{EndStands, Stands, scope_found, stands_is, stands_part}

@@ -17,7 +17,8 @@ use Rattle.ba_ends.specs.declared.parts.Part.{Part}
 use Rattle.ba_steps.specs.Endpoints.{AllReachable, IsReachable, part_endpoints}
 use Rattle.ba_steps.specs.Node.{EndPlace, NodeState, PartPlace, end_place, part_place, scope_with_id}
 use Rattle.ba_steps.specs.Steps.{if_found, is_registering_state}
-use Rattle.ba_steps.specs.Ticks.{TickStep, end_letter, letter_step, notice_letter, part_letter, register_letter, tick_at_end, tick_at_part, tick_at_scope, tick_lone, tick_step, tick_upward}
+use Rattle.ba_steps.specs.Ticks.{TickStep, end_letter, letter_step, notice_letter, part_letter, register_letter, tick_at_end, tick_at_part}
+use Rattle.ba_steps.specs.Ticks.{tick_at_scope, tick_lone, tick_step, tick_upward}
 use Rattle.ba_steps.proofs.Cases.{end_ticks, up_acts, up_talks}
 use Rattle.ba_steps.proofs.Enacted.{some_is}
 use Rattle.ba_steps.proofs.Places.{end_found, place_cases}

@@ -1,6 +1,7 @@
 -- A node stays fit where one of its scopes or lone participants is changed, or a new object is made; for the law that steps
 -- keep a node fit.
-use Rattle.std.proofs.Common.{◌≡◌, inl, inr, ℕ, ◌+◌, ◌<◌, ◌≤◌, ◌^◌, false, List, [], ◌∷◌, ◌++◌, length, map, max, None, Some, IsTrue, refl, sym, ap, ◌∙◌, subst, arith, append_assoc}
+use Rattle.std.proofs.Common.{◌≡◌, inl, inr, ℕ, ◌+◌, ◌<◌, ◌≤◌, ◌^◌, false, List, [], ◌∷◌, ◌++◌, length, map, max, None, Some, IsTrue, refl}
+use Rattle.std.proofs.Common.{sym, ap, ◌∙◌, subst, arith, append_assoc}
 use Rattle.std.specs.List.{AllByRecursion, IsDistinct}
 use Rattle.std.specs.Option.{option_to_list}
 use Rattle.ba_core.specs.Numbers.{id_of, counter_of}
@@ -14,8 +15,11 @@ use Rattle.ba_scope.specs.Scope.{ScopeState}
 use Rattle.ba_ends.specs.declared.ends.End.{End}
 use Rattle.ba_ends.specs.declared.parts.Part.{Part}
 use Rattle.ba_steps.specs.Fits.{HasSpareCounters, IsIdAt, NodeFits}
-use Rattle.ba_steps.specs.Node.{Among, NodeState, counter, ids, last, next_id, part_in_place_of, scope_ids, scope_in_place_of, with_lone, with_new_part, with_new_scope, with_scope}
-use Rattle.ba_steps.proofs.Members.{Inserts, all_among, all_append, among_all, among_joined, among_map, apart_across, apart_left, apart_right, id_by_number, inserts_all, inserts_apart, inserts_greatest, inserts_length, is_other, other_by_number, same_by_number}
+use Rattle.ba_steps.specs.Node.{Among, NodeState, counter, ids, last, next_id, part_in_place_of, scope_ids, scope_in_place_of, with_lone}
+use Rattle.ba_steps.specs.Node.{with_new_part, with_new_scope, with_scope}
+use Rattle.ba_steps.proofs.Members.{Inserts, all_among, all_append, among_all, among_joined, among_map, apart_across, apart_left}
+use Rattle.ba_steps.proofs.Members.{apart_right, id_by_number, inserts_all, inserts_apart, inserts_greatest, inserts_length, is_other}
+use Rattle.ba_steps.proofs.Members.{other_by_number, same_by_number}
 use Rattle.ba_steps.proofs.Objects.{ids_in_scopes, lone_ids, one_scope}
 use Rattle.ba_steps.proofs.Own.{SameOwn}
 use Rattle.ba_tree.specs.Trees.{joined, greatest}

@@ -11,7 +11,8 @@ use Rattle.ba_ends.specs.declared.ends.End.{End}
 use Rattle.ba_ends.specs.declared.parts.Part.{Part}
 use Rattle.ba_steps.specs.Fits.{IsIdAt, NodeFits}
 use Rattle.ba_steps.specs.Node.{Among, HasPart, NodeState, ids, scope_ids}
-use Rattle.ba_steps.proofs.Members.{all_among, among_joined, among_left, among_map, among_right, apart_across, apart_left, apart_right, one_item, one_owner}
+use Rattle.ba_steps.proofs.Members.{all_among, among_joined, among_left, among_map, among_right, apart_across, apart_left, apart_right}
+use Rattle.ba_steps.proofs.Members.{one_item, one_owner}
 use Rattle.ba_tree.specs.Trees.{joined}
 
 -- ---- whose an identifier is

@@ -14,9 +14,11 @@ use Rattle.ba_core.specs.declared.states.PState.{PState}
 use Rattle.ba_scope.proofs.Calls.{by_option, ticked_part}
 use Rattle.ba_scope.proofs.Kept.{KeepsWho, after_who, at_keeps}
 use Rattle.ba_scope.proofs.Lists.{by_test}
-use Rattle.ba_ends.specs.Ends.{Tick, end_after_notice, end_asking, end_in_state, end_owing, end_with_verdict, end_with_verdict_if_none, tick_of_end}
+use Rattle.ba_ends.specs.Ends.{Tick, end_after_notice, end_asking, end_in_state, end_owing, end_with_verdict, end_with_verdict_if_none}
+use Rattle.ba_ends.specs.Ends.{tick_of_end}
 use Rattle.ba_ends.specs.Parts.{part_in_state, tick_of_part, verdict_on_the_way}
-use Rattle.ba_scope.specs.Rules.{ScopeStep, changed_at, choose, complete, decide, end_with_verdict_if_any, expire, finish, is_expired, leave_by, part_at_tick, state_at_tick, tick_up, with_end_changed, with_up, with_up_moved, word_for}
+use Rattle.ba_scope.specs.Rules.{ScopeStep, changed_at, choose, complete, decide, end_with_verdict_if_any, expire, finish, is_expired}
+use Rattle.ba_scope.specs.Rules.{leave_by, part_at_tick, state_at_tick, tick_up, with_end_changed, with_up, with_up_moved, word_for}
 use Rattle.ba_scope.specs.Scope.{ScopeState}
 use Rattle.ba_message.specs.declared.endpoints.Epr.{Epr}
 use Rattle.ba_scope.specs.declared.answers.Said.{Said}

@@ -1,5 +1,6 @@
 -- What a look-up in a node finds stands there; for each law of steps.
-use Rattle.std.proofs.Common.{◌≡◌, inl, inr, Bool, true, false, List, [], ◌∷◌, Option, None, Some, refl, sym, ap, ◌∙◌, subst, true≢false, if◌then◌else◌}
+use Rattle.std.proofs.Common.{◌≡◌, inl, inr, Bool, true, false, List, [], ◌∷◌, Option, None, Some, refl, sym, ap, ◌∙◌, subst, true≢false}
+use Rattle.std.proofs.Common.{if◌then◌else◌}
 use Rattle.std.specs.List.{find}
 use Rattle.ba_core.specs.declared.identifiers.Id.{Id}
 use Rattle.ba_scope.proofs.Lists.{by_test}
@@ -7,7 +8,8 @@ use Rattle.ba_ends.specs.Ends.{end_with_id, same_id}
 use Rattle.ba_scope.specs.Scope.{ScopeState}
 use Rattle.ba_ends.specs.declared.ends.End.{End}
 use Rattle.ba_ends.specs.declared.parts.Part.{Part}
-use Rattle.ba_steps.specs.Node.{Among, HasPart, NodeState, EndPlace, PartPlace, nowhere, lone, upward, end_place, first_end, first_up, part_place, scope_with_id}
+use Rattle.ba_steps.specs.Node.{Among, HasPart, NodeState, EndPlace, PartPlace, nowhere, lone, upward, end_place, first_end, first_up}
+use Rattle.ba_steps.specs.Node.{part_place, scope_with_id}
 use Rattle.ba_steps.proofs.Members.{number_is_same, same_id_is}
 
 -- ---- the first that passes a test

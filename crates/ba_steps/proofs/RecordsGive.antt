@@ -14,7 +14,8 @@ use Rattle.ba_record.specs.declared.records.Record.{Record}
 use Rattle.ba_record.specs.declared.records.Record.TheVariants as journal
 use Rattle.ba_steps.specs.declared.inputs.Input.TheVariants as input
 use Rattle.ba_steps.specs.Endpoints.{AllReachable, GivesFit}
-use Rattle.ba_steps.specs.Lawful.{Event, given, act_event, after_record, change, chosen_event, create_event, enacted_again, event_of, is_next, refused_event}
+use Rattle.ba_steps.specs.Lawful.{Event, given, act_event, after_record, change, chosen_event, create_event, enacted_again, event_of}
+use Rattle.ba_steps.specs.Lawful.{is_next, refused_event}
 use Rattle.ba_steps.specs.Node.{NodeState, PartPlace, upward}
 use Rattle.ba_steps.specs.Steps.{choice_number, complete_number}
 use Rattle.ba_steps.proofs.EndpointsKept.{step_reaches}
@@ -85,12 +86,14 @@ enacted_leads n r e after h = by_answer (is_next n r && is_some (change n e).wri
     by_answer true h = some_is (change n e).after after h
     by_answer false h = absurd cc
 
-enacted_by : (n : NodeState) (r : Record) (after : NodeState) (o : Option Event) → event_of n r ≡ o → option_and_then (enacted_again n r) o ≡ Some after
+enacted_by : (n : NodeState) (r : Record) (after : NodeState) (o : Option Event) → event_of n r ≡ o
+    → option_and_then (enacted_again n r) o ≡ Some after
     → IsEnacted n r after
 enacted_by n r after None is h = absurd cc
 enacted_by n r after (Some e) is h = record { event = e; is = is; leads = enacted_leads n r e after h }
 
-pub after_reaches : (n : NodeState) (r : Record) (after : NodeState) → InRange r → AllReachable n → after_record n r ≡ Some after → AllReachable after
+pub after_reaches : (n : NodeState) (r : Record) (after : NodeState) → InRange r → AllReachable n → after_record n r ≡ Some after
+    → AllReachable after
 after_reaches n r after range reaches h =
     let by : IsEnacted n r after = enacted_by n r after (event_of n r) refl h in
     subst AllReachable by.leads (step_reaches n by.event (gives_fit n r by.event range by.is) reaches)

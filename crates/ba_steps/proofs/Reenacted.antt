@@ -1,5 +1,6 @@
 -- Each step is the one to which its record leads; for the law a_record_tells_its_step.
-use Rattle.std.proofs.Common.{◌≡◌, ℕ, Bool, true, false, not, ◌&&◌, nat_eq, Option, None, Some, is_some, is_none, unwrap_or, refl, sym, ap, ◌∙◌, subst, arith, true≢false, if◌then◌else◌}
+use Rattle.std.proofs.Common.{◌≡◌, ℕ, Bool, true, false, not, ◌&&◌, nat_eq, Option, None, Some, is_some, is_none, unwrap_or, refl, sym, ap}
+use Rattle.std.proofs.Common.{◌∙◌, subst, arith, true≢false, if◌then◌else◌}
 use Rattle.std.specs.Option.{option_and_then, option_map}
 use Rattle.std.proofs.lemmas.Bool.{and_parts, and_from}
 use Rattle.std.proofs.lemmas.Bool.Decides.{nat_tests}
@@ -32,16 +33,22 @@ use Rattle.ba_steps.specs.declared.answers.Wake.TheVariants as wake
 use Rattle.ba_steps.specs.declared.inputs.Input.{Input}
 use Rattle.ba_steps.specs.declared.inputs.Input.TheVariants as input
 use Rattle.ba_steps.specs.Fits.{NodeFits}
-use Rattle.ba_steps.specs.Lawful.{Event, given, ticked, IsStepOf, act_event, after_record, change, current_context, enacted_again, event_of, is_next, last_moment, notice_event, refused_event}
-use Rattle.ba_steps.specs.Node.{Among, EndPlace, NodeState, PartPlace, lone, upward, counter, end_place, id_at, next_id, part_place, scope_with_id, with_new_scope, with_scope}
-use Rattle.ba_steps.specs.Steps.{NodeStep, choice_number, create_scope, deadline_after, if_found, is_of_kind, new_part, node_step, on_create, refusal_number}
+use Rattle.ba_steps.specs.Lawful.{Event, given, ticked, IsStepOf, act_event, after_record, change, current_context, enacted_again, event_of}
+use Rattle.ba_steps.specs.Lawful.{is_next, last_moment, notice_event, refused_event}
+use Rattle.ba_steps.specs.Node.{Among, EndPlace, NodeState, PartPlace, lone, upward, counter, end_place, id_at, next_id, part_place}
+use Rattle.ba_steps.specs.Node.{scope_with_id, with_new_scope, with_scope}
+use Rattle.ba_steps.specs.Steps.{NodeStep, choice_number, create_scope, deadline_after, if_found, is_of_kind, new_part, node_step}
+use Rattle.ba_steps.specs.Steps.{on_create, refusal_number}
 use Rattle.ba_steps.specs.Ticks.{TickStep, letter_step, ticked_step, tick_at_end, tick_at_part, tick_at_scope, tick_step}
-use Rattle.ba_steps.proofs.Cases.{act_cases, ask_cases, create_cases, end_notice_cases, enrolled_cases, join_cases, on_choose_cases, on_complete_cases, on_decide_cases, on_finish_cases, on_leave_cases, part_notice_cases, refused_cases, register_cases, tick_cases}
+use Rattle.ba_steps.proofs.Cases.{act_cases, ask_cases, create_cases, end_notice_cases, enrolled_cases, join_cases, on_choose_cases}
+use Rattle.ba_steps.proofs.Cases.{on_complete_cases, on_decide_cases, on_finish_cases, on_leave_cases, part_notice_cases, refused_cases}
+use Rattle.ba_steps.proofs.Cases.{register_cases, tick_cases}
 use Rattle.ba_steps.proofs.Changed.{expiry}
 use Rattle.ba_steps.proofs.Enacted.{deadline_again, get_status_is, id_told, some_is}
 use Rattle.ba_steps.proofs.Members.{all_among}
 use Rattle.ba_steps.proofs.Objects.{end_here, no_end_is_a_part, no_lone_is_up, one_scope_above, part_here, scope_here, up_here}
-use Rattle.ba_steps.proofs.Places.{EndStands, Stands, end_found, first_up_finds, nowhere_above, place_cases, scope_found, stands_is, stands_part}
+use Rattle.ba_steps.proofs.Places.{EndStands, Stands, end_found, first_up_finds, nowhere_above, place_cases, scope_found, stands_is}
+use Rattle.ba_steps.proofs.Places.{stands_part}
 use Rattle.ba_steps.proofs.StepsFit.{new_deadline}
 
 -- an event of which the record is kept, and to which the record leads

@@ -1,6 +1,7 @@
 -- A lawful list of records has one replay, which fits, and goes on with the record of each step; for the laws replays_go_on
 -- and a_lawful_list_has_one_replay.
-use Rattle.std.proofs.Common.{◌∙◌, ℕ, ◌+◌, ◌*◌, ◌<◌, ◌^◌, arith, length, is_some, true, ◌≡◌, List, [], ◌∷◌, ◌++◌, Option, None, Some, refl, sym, ap, subst, true≢false}
+use Rattle.std.proofs.Common.{◌∙◌, ℕ, ◌+◌, ◌*◌, ◌<◌, ◌^◌, arith, length, is_some, true, ◌≡◌, List, [], ◌∷◌, ◌++◌, Option, None, Some, refl}
+use Rattle.std.proofs.Common.{sym, ap, subst, true≢false}
 use Rattle.std.specs.List.{AllByRecursion}
 use Rattle.std.specs.Option.{option_to_list}
 use Rattle.ba_record.specs.Coding.{InRange}

@@ -10,7 +10,9 @@ use Rattle.ba_steps.specs.Lawful.{Event, given, ticked, change}
 use Rattle.ba_steps.specs.Node.{NodeState, PartPlace, SameNode, nowhere, lone, upward, with_part_changed}
 use Rattle.ba_steps.specs.Steps.{NodeStep, node_step}
 use Rattle.ba_steps.specs.Ticks.{TickStep, tick_step}
-use Rattle.ba_steps.proofs.Cases.{act_cases, ask_cases, create_cases, end_notice_cases, enrolled_cases, join_cases, on_choose_cases, on_complete_cases, on_decide_cases, on_finish_cases, on_leave_cases, part_notice_cases, refused_cases, register_cases, tick_cases}
+use Rattle.ba_steps.proofs.Cases.{act_cases, ask_cases, create_cases, end_notice_cases, enrolled_cases, join_cases, on_choose_cases}
+use Rattle.ba_steps.proofs.Cases.{on_complete_cases, on_decide_cases, on_finish_cases, on_leave_cases, part_notice_cases, refused_cases}
+use Rattle.ba_steps.proofs.Cases.{register_cases, tick_cases}
 
 abbrev Same : NodeState → NodeStep → Type 0
 Same n step = SameNode n step.after

@@ -1,5 +1,6 @@
 -- Each step keeps a node fit; for the law steps_keep_a_node_fit.
-use Rattle.std.proofs.Common.{◌≡◌, inl, inr, ℕ, ◌+◌, ◌≤◌, Bool, true, false, not, ◌&&◌, ◌||◌, List, [], ◌∷◌, ◌++◌, map, Option, None, Some, refl, sym, ap, ◌∙◌, subst, arith, true≢false, append_assoc}
+use Rattle.std.proofs.Common.{◌≡◌, inl, inr, ℕ, ◌+◌, ◌≤◌, Bool, true, false, not, ◌&&◌, ◌||◌, List, [], ◌∷◌, ◌++◌, map, Option, None, Some}
+use Rattle.std.proofs.Common.{refl, sym, ap, ◌∙◌, subst, arith, true≢false, append_assoc}
 use Rattle.std.specs.List.{IsDistinct, list_all, list_any}
 use Rattle.std.specs.Option.{option_map}
 use Rattle.std.proofs.lemmas.Bool.{and_from}
@@ -17,14 +18,17 @@ use Rattle.ba_core.specs.declared.states.PState.TheVariants as part
 use Rattle.ba_link.proofs.Everywhere.{protocol_passes, part_passes, parts, where_asked}
 use Rattle.ba_message.specs.declared.endpoints.Epr.{Epr}
 use Rattle.ba_record.specs.Coding.{IsDeadline}
-use Rattle.ba_scope.proofs.Calls.{choose_fits, complete_fits, decide_fits, enrol_fits, enrolled_fits, expire_fits, finish_fits, leave_fits, led, new_scope_fits, refused_fits, registering_is, tick_end_fits, tick_up_fits, ticked_part}
+use Rattle.ba_scope.proofs.Calls.{choose_fits, complete_fits, decide_fits, enrol_fits, enrolled_fits, expire_fits, finish_fits, leave_fits}
+use Rattle.ba_scope.proofs.Calls.{led, new_scope_fits, refused_fits, registering_is, tick_end_fits, tick_up_fits, ticked_part}
 use Rattle.ba_scope.proofs.Kept.{changed_fits, end_received_fits, own_part_state, part_above, part_in_fits, same_up_fits, up_received_fits}
 use Rattle.ba_scope.proofs.Lists.{some_branch}
 use Rattle.ba_scope.proofs.Tables.{acts_fit, each_act_fits, each_part_row_fits, if_leads, part_row_fits, part_rows_fit, same_truth}
-use Rattle.ba_ends.specs.Parts.{part_fits, enrolled_part, part_asking, part_in_state, part_owing, refused_part, state_after_row, tick_of_part, has_no_coordinator, is_registering}
+use Rattle.ba_ends.specs.Parts.{part_fits, enrolled_part, part_asking, part_in_state, part_owing, refused_part, state_after_row}
+use Rattle.ba_ends.specs.Parts.{tick_of_part, has_no_coordinator, is_registering}
 use Rattle.ba_scope.specs.Fits.{ScopeFits}
 use Rattle.ba_ends.specs.Ends.{Tick, end_after_notice, end_asking, end_owing, new_end, tick_of_end, end_with_id, same_id}
-use Rattle.ba_scope.specs.Rules.{choose, complete, decide, expire, finish, leave_by, new_scope, scope_with_end, tick_end, tick_up, with_end_changed, with_up, with_up_moved}
+use Rattle.ba_scope.specs.Rules.{choose, complete, decide, expire, finish, leave_by, new_scope, scope_with_end, tick_end, tick_up}
+use Rattle.ba_scope.specs.Rules.{with_end_changed, with_up, with_up_moved}
 use Rattle.ba_scope.specs.Scope.{ScopeState, has_id, is_id_above, is_own_id}
 use Rattle.ba_ends.specs.declared.ends.End.{End}
 use Rattle.ba_ends.specs.declared.parts.Part.{Part}
@@ -32,14 +36,19 @@ use Rattle.ba_steps.specs.declared.inputs.Input.{Input}
 use Rattle.ba_steps.specs.declared.inputs.Input.TheVariants as input
 use Rattle.ba_steps.specs.Fits.{HasSpareCounters, NodeFits}
 use Rattle.ba_steps.specs.Lawful.{Event, given, ticked, change}
-use Rattle.ba_steps.specs.Node.{Among, EndPlace, NodeState, PartPlace, nowhere, lone, upward, ids, last, new_node, next_id, scope_ids, with_lone, with_part_changed, with_scope}
+use Rattle.ba_steps.specs.Node.{Among, EndPlace, NodeState, PartPlace, nowhere, lone, upward, ids, last, new_node, next_id, scope_ids}
+use Rattle.ba_steps.specs.Node.{with_lone, with_part_changed, with_scope}
 use Rattle.ba_steps.specs.Steps.{NodeStep, deadline_after, is_registering_state, new_part, node_step}
 use Rattle.ba_steps.specs.Ticks.{TickStep, tick_step}
-use Rattle.ba_steps.proofs.Cases.{act_cases, ask_cases, create_cases, end_notice_cases, enrolled_cases, join_cases, on_choose_cases, on_complete_cases, on_decide_cases, on_finish_cases, on_leave_cases, part_notice_cases, refused_cases, register_cases, tick_cases, Registers}
+use Rattle.ba_steps.proofs.Cases.{act_cases, ask_cases, create_cases, end_notice_cases, enrolled_cases, join_cases, on_choose_cases}
+use Rattle.ba_steps.proofs.Cases.{on_complete_cases, on_decide_cases, on_finish_cases, on_leave_cases, part_notice_cases, refused_cases}
+use Rattle.ba_steps.proofs.Cases.{register_cases, tick_cases, Registers}
 use Rattle.ba_steps.proofs.Members.{all_among, among_left, number_is_same, other_by_number}
-use Rattle.ba_steps.proofs.NodeKept.{Follows, fresh_of, lone_changed_fits, new_child_fits, new_end_fits, new_part_fits, new_root_fits, next_is, scope_changed_fits, stays}
+use Rattle.ba_steps.proofs.NodeKept.{Follows, fresh_of, lone_changed_fits, new_child_fits, new_end_fits, new_part_fits, new_root_fits}
+use Rattle.ba_steps.proofs.NodeKept.{next_is, scope_changed_fits, stays}
 use Rattle.ba_steps.proofs.Objects.{end_owned, ids_in_scopes, in_scopes, lone_fits, lone_ids, scope_fits, up_ids, up_owned}
-use Rattle.ba_steps.proofs.Own.{SameOwn, asking_who, choose_own, complete_own, decide_own, end_changed, expire_own, finish_own, leave_own, moved_own, notice_who, owing_who, tick_up_own, tick_who, up_changed}
+use Rattle.ba_steps.proofs.Own.{SameOwn, asking_who, choose_own, complete_own, decide_own, end_changed, expire_own, finish_own, leave_own}
+use Rattle.ba_steps.proofs.Own.{moved_own, notice_who, owing_who, tick_up_own, tick_who, up_changed}
 use Rattle.ba_steps.proofs.Places.{EndStands, Stands, scope_found}
 
 abbrev Kept : NodeState → NodeStep → Type 0

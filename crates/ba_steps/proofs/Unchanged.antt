@@ -9,7 +9,9 @@ use Rattle.ba_steps.specs.Lawful.{Event, given, ticked, change}
 use Rattle.ba_steps.specs.Node.{NodeState}
 use Rattle.ba_steps.specs.Steps.{NodeStep, node_step}
 use Rattle.ba_steps.specs.Ticks.{TickStep, tick_step}
-use Rattle.ba_steps.proofs.Cases.{OfAgain, OfReply, act_cases, ask_cases, create_cases, end_notice_cases, enrolled_cases, join_cases, on_choose_cases, on_complete_cases, on_decide_cases, on_finish_cases, on_leave_cases, part_notice_cases, refused_cases, register_cases, tick_cases}
+use Rattle.ba_steps.proofs.Cases.{OfAgain, OfReply, act_cases, ask_cases, create_cases, end_notice_cases, enrolled_cases, join_cases}
+use Rattle.ba_steps.proofs.Cases.{on_choose_cases, on_complete_cases, on_decide_cases, on_finish_cases, on_leave_cases, part_notice_cases}
+use Rattle.ba_steps.proofs.Cases.{refused_cases, register_cases, tick_cases}
 
 abbrev Unchanged : NodeState → NodeStep → Type 0
 Unchanged n step = step.written ≡ None → step.after ≡ n

@@ -1,6 +1,7 @@
 -- Believe: lawful lists of records: the first is the node's own, and each further one is the record of some step. And
 -- how the step of a record is found: what happened is enacted again.
-use Rattle.std.specs.Prelude.{◌≡◌, ℕ, Bool, true, ◌-◌, ◌^◌, ◌&&◌, List, [], ◌∷◌, nat_eq, Option, None, Some, is_some, unwrap_or, if◌then◌else◌, ◌*◌, ◌<◌, length}
+use Rattle.std.specs.Prelude.{◌≡◌, ℕ, Bool, true, ◌-◌, ◌^◌, ◌&&◌, List, [], ◌∷◌, nat_eq, Option, None, Some, is_some, unwrap_or}
+use Rattle.std.specs.Prelude.{if◌then◌else◌, ◌*◌, ◌<◌, length}
 use Rattle.std.specs.Option.{option_and_then, option_map}
 use Rattle.ba_core.specs.declared.codes.Code.TheVariants as code
 use Rattle.ba_core.specs.declared.identifiers.Id.{Id}

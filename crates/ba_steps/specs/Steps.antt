@@ -35,7 +35,8 @@ use Rattle.ba_record.specs.declared.records.Record.{Record}
 use Rattle.ba_record.specs.declared.records.Record.TheVariants as journal
 use Rattle.ba_ends.specs.Ends.{end_after_notice, end_after_row, end_asking, end_owing, end_of, is_ended_state}
 use Rattle.ba_ends.specs.Parts.{enrolled_part, part_asking, part_in_state, part_owing, refused_part, verdict_on_the_way, has_no_coordinator}
-use Rattle.ba_scope.specs.Rules.{ScopeStep, choose, complete, decide, enrol_refusal, finish, leave_act, leave_by, new_scope, scope_with_end, with_end_changed, with_up_moved}
+use Rattle.ba_scope.specs.Rules.{ScopeStep, choose, complete, decide, enrol_refusal, finish, leave_act, leave_by, new_scope, scope_with_end}
+use Rattle.ba_scope.specs.Rules.{with_end_changed, with_up_moved}
 use Rattle.ba_scope.specs.Scope.{ScopeState}
 use Rattle.ba_scope.specs.declared.answers.EnrolFault.{EnrolFault}
 use Rattle.ba_scope.specs.declared.answers.EnrolFault.TheVariants.{NotYetEnrolled}
@@ -52,7 +53,8 @@ use Rattle.ba_steps.specs.declared.answers.Wake.TheVariants as wake
 use Rattle.ba_steps.specs.declared.inputs.Input.{Input}
 use Rattle.ba_steps.specs.declared.inputs.Input.TheVariants as input
 use Rattle.ba_steps.specs.Addresses.{context_identifier, coordinator_of, registration_of}
-use Rattle.ba_steps.specs.Node.{NodeState, PartPlace, nowhere, lone, upward, counter, end_place, id_at, next_id, part_place, scope_with_id, with_lone, with_new_part, with_new_scope, with_part_changed, with_scope}
+use Rattle.ba_steps.specs.Node.{NodeState, PartPlace, nowhere, lone, upward, counter, end_place, id_at, next_id, part_place, scope_with_id}
+use Rattle.ba_steps.specs.Node.{with_lone, with_new_part, with_new_scope, with_part_changed, with_scope}
 use Rattle.ba_tree.specs.Lengths.{in_u64}
 
 -- the node after an input, its answer, the record that it keeps, and which objects have something to say now

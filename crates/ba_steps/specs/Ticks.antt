@@ -20,7 +20,8 @@ use Rattle.ba_ends.specs.declared.parts.Part.{Part}
 use Rattle.ba_steps.specs.declared.answers.Wake.{Wake}
 use Rattle.ba_steps.specs.declared.answers.Wake.TheVariants as wake
 use Rattle.ba_steps.specs.Addresses.{message_number, participant_of, register_code}
-use Rattle.ba_steps.specs.Node.{NodeState, PartPlace, nowhere, lone, upward, counter, end_place, part_place, scope_with_id, with_lone, with_scope}
+use Rattle.ba_steps.specs.Node.{NodeState, PartPlace, nowhere, lone, upward, counter, end_place, part_place, scope_with_id, with_lone}
+use Rattle.ba_steps.specs.Node.{with_scope}
 use Rattle.ba_steps.specs.Steps.{if_found, is_registering_state, same_end_state, same_part_state, wake_of_end}
 
 -- the node after a tick, the letter that is sent, the record that is kept, and which objects have something to say now

@@ -1,5 +1,6 @@
 -- A row that notes namespaces one after another holds each once, in the order of first appearance.
-use Rattle.std.proofs.Common.{true, false, ◌<◌, ◌≤◌, length, nat_lt, arith, ◌≡◌, ◌||◌, ◌++◌, ◌∷◌, not, ℕ, Bool, List, [], refl, sym, ap, ◌∙◌, subst, Option, Some, None, append-nil, length-append}
+use Rattle.std.proofs.Common.{true, false, ◌<◌, ◌≤◌, length, nat_lt, arith, ◌≡◌, ◌||◌, ◌++◌, ◌∷◌, not, ℕ, Bool, List, [], refl, sym, ap}
+use Rattle.std.proofs.Common.{◌∙◌, subst, Option, Some, None, append-nil, length-append}
 use Rattle.std.proofs.lemmas.Bool.Decides.{nat_tests}
 use Rattle.std.proofs.lemmas.List.Folds.{list_any-append}
 use Rattle.std.specs.Cmp.Lexicographic as lexicographic
@@ -48,7 +49,9 @@ or_none false b h = h
 
 -- one item more in the row, and its test
 noted_more : (known : List (List ℕ)) (x y : List ℕ) → is_noted (known ++ x ∷ []) y ≡ (is_noted known y || bytes_eq y x)
-noted_more known x y = ap (λ b. bytes_eq y [] || b) (list_any-append (bytes_eq y) known (x ∷ []) ∙ tail (list_any (bytes_eq y) known) (bytes_eq y x)) ∙ group (bytes_eq y []) (list_any (bytes_eq y) known) (bytes_eq y x)
+noted_more known x y = ap (λ b. bytes_eq y [] || b)
+    (list_any-append (bytes_eq y) known (x ∷ []) ∙ tail (list_any (bytes_eq y) known) (bytes_eq y x))
+    ∙ group (bytes_eq y []) (list_any (bytes_eq y) known) (bytes_eq y x)
   where
     tail : (a b : Bool) → (a || (b || false)) ≡ (a || b)
     tail true b = refl
@@ -59,7 +62,8 @@ noted_more known x y = ap (λ b. bytes_eq y [] || b) (list_any-append (bytes_eq 
     group true b c = refl
     group false b c = refl
 
-keep_fresh : (known : List (List ℕ)) (x : List ℕ) (ys : List (List ℕ)) → keep (fresh known) (without x ys) ≡ keep (fresh (known ++ x ∷ [])) ys
+keep_fresh : (known : List (List ℕ)) (x : List ℕ) (ys : List (List ℕ))
+    → keep (fresh known) (without x ys) ≡ keep (fresh (known ++ x ∷ [])) ys
 keep_fresh known x [] = refl
 keep_fresh known x (y ∷ ys) = by (bytes_eq x y) refl (keep_fresh known x ys)
   where
@@ -69,9 +73,12 @@ keep_fresh known x (y ∷ ys) = by (bytes_eq x y) refl (keep_fresh known x ys)
     by : (b : Bool) → bytes_eq x y ≡ b → keep (fresh known) (without x ys) ≡ keep (fresh (known ++ x ∷ [])) ys
         → keep (fresh known) (elim b [ true ↦ without x ys | false ↦ y ∷ without x ys ]) ≡ keep (fresh (known ++ x ∷ [])) (y ∷ ys)
     by true e others =
-        others ∙ sym (taken (fresh (known ++ x ∷ []) y) (ap not (noted_more known x y ∙ or_last (is_noted known y) (bytes_eq y x) (same_back y x ∙ e))) (keep (fresh (known ++ x ∷ [])) ys))
+        others ∙ sym (taken (fresh (known ++ x ∷ []) y)
+        (ap not (noted_more known x y ∙ or_last (is_noted known y) (bytes_eq y x) (same_back y x ∙ e)))
+        (keep (fresh (known ++ x ∷ [])) ys))
     by false e others =
-        (λ i. elim (not (sym (noted_more known x y ∙ or_none (is_noted known y) (bytes_eq y x) (same_back y x ∙ e)) i)) [ true ↦ y ∷ others i | false ↦ others i ])
+        (λ i. elim (not (sym (noted_more known x y ∙ or_none (is_noted known y) (bytes_eq y x) (same_back y x ∙ e)) i))
+        [ true ↦ y ∷ others i | false ↦ others i ])
 
 -- what a row that knows these takes of some more
 abbrev taken_of : List (List ℕ) → List (List ℕ) → List (List ℕ)
@@ -89,23 +96,35 @@ fate most known (x ∷ xs) = by (is_noted known x) refl (fate most known xs) (fa
     over : (rest : List (List ℕ)) → nat_lt (length known) most ≡ false → most < length (known ++ x ∷ rest)
     over rest e = let full : most ≤ length known = grind (arith, nat_tests) in omega (arith, full, length-append known (x ∷ rest))
 
-    room : (r : Bool) → nat_lt (length known) most ≡ r → Fate most ((known ++ x ∷ []) ++ taken_of (known ++ x ∷ []) xs) (all_noted most (known ++ x ∷ []) xs)
-        → Fate most (known ++ x ∷ keep (fresh known) (without x (firsts xs))) (go_on (elim r [ true ↦ Some (known ++ x ∷ []) | false ↦ None ]) (λ now. all_noted most now xs))
+    room : (r : Bool) → nat_lt (length known) most ≡ r
+        → Fate most ((known ++ x ∷ []) ++ taken_of (known ++ x ∷ []) xs) (all_noted most (known ++ x ∷ []) xs)
+        → Fate most (known ++ x ∷ keep (fresh known) (without x (firsts xs)))
+        (go_on (elim r [ true ↦ Some (known ++ x ∷ []) | false ↦ None ]) (λ now. all_noted most now xs))
     room true e put =
-        subst (λ w. Fate most w (all_noted most (known ++ x ∷ []) xs)) (append_assoc known (x ∷ []) (taken_of (known ++ x ∷ []) xs) ∙ ap (λ l. known ++ x ∷ l) (sym (keep_fresh known x (firsts xs)))) put
+        subst (λ w. Fate most w (all_noted most (known ++ x ∷ []) xs))
+        (append_assoc known (x ∷ []) (taken_of (known ++ x ∷ []) xs)
+        ∙ ap (λ l. known ++ x ∷ l) (sym (keep_fresh known x (firsts xs)))) put
     room false e put = over (keep (fresh known) (without x (firsts xs))) e
 
-    by : (b : Bool) → is_noted known x ≡ b → Fate most (known ++ taken_of known xs) (all_noted most known xs) → Fate most ((known ++ x ∷ []) ++ taken_of (known ++ x ∷ []) xs) (all_noted most (known ++ x ∷ []) xs)
-        → Fate most (known ++ elim (not b) [ true ↦ x ∷ keep (fresh known) (without x (firsts xs)) | false ↦ keep (fresh known) (without x (firsts xs)) ])
-        (go_on (elim b [ true ↦ Some known | false ↦ elim (nat_lt (length known) most) [ true ↦ Some (known ++ x ∷ []) | false ↦ None ] ]) (λ now. all_noted most now xs))
-    by true e same put = subst (λ l. Fate most (known ++ l) (all_noted most known xs)) (sym (keep_without (fresh known) x (firsts xs) (ap not e))) same
+    by : (b : Bool) → is_noted known x ≡ b → Fate most (known ++ taken_of known xs) (all_noted most known xs)
+        → Fate most ((known ++ x ∷ []) ++ taken_of (known ++ x ∷ []) xs) (all_noted most (known ++ x ∷ []) xs)
+        → Fate most (known ++ elim (not b) [
+          | true ↦ x ∷ keep (fresh known) (without x (firsts xs))
+          | false ↦ keep (fresh known)
+              (without x (firsts xs))
+        ])
+        (go_on (elim b [ true ↦ Some known | false ↦ elim (nat_lt (length known) most) [ true ↦ Some (known ++ x ∷ []) | false ↦ None ] ])
+        (λ now. all_noted most now xs))
+    by true e same put = subst (λ l. Fate most (known ++ l) (all_noted most known xs))
+        (sym (keep_without (fresh known) x (firsts xs) (ap not e))) same
     by false e same put = room (nat_lt (length known) most) refl put
 
 keep_some : (ys : List (List ℕ)) → keep (fresh []) ys ≡ without [] ys
 keep_some [] = refl
 keep_some (y ∷ ys) = by (bytes_eq y []) refl (keep_some ys)
   where
-    by : (b : Bool) → bytes_eq y [] ≡ b → keep (fresh []) ys ≡ without [] ys → elim (not (b || false)) [ true ↦ y ∷ keep (fresh []) ys | false ↦ keep (fresh []) ys ] ≡ without [] (y ∷ ys)
+    by : (b : Bool) → bytes_eq y [] ≡ b → keep (fresh []) ys ≡ without [] ys
+        → elim (not (b || false)) [ true ↦ y ∷ keep (fresh []) ys | false ↦ keep (fresh []) ys ] ≡ without [] (y ∷ ys)
     by true e others = others ∙ (λ i. elim (sym (same_back [] y ∙ e) i) [ true ↦ without [] ys | false ↦ y ∷ without [] ys ])
     by false e others = (λ i. y ∷ others i) ∙ (λ i. elim (sym (same_back [] y ∙ e) i) [ true ↦ without [] ys | false ↦ y ∷ without [] ys ])
 

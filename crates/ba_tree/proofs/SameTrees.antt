@@ -1,5 +1,6 @@
 -- The tests of equality of names, attributes, content and trees are true of equal values alone.
-use Rattle.std.proofs.Common.{◌≡◌, inl, inr, ◌≤◌, ◌+◌, ℕ, zero, suc, Bool, true, false, true≢false, ◌&&◌, List, [], ◌∷◌, map, refl, sym, ap, ◌∙◌, subst, arith}
+use Rattle.std.proofs.Common.{◌≡◌, inl, inr, ◌≤◌, ◌+◌, ℕ, zero, suc, Bool, true, false, true≢false, ◌&&◌, List, [], ◌∷◌, map, refl, sym, ap}
+use Rattle.std.proofs.Common.{◌∙◌, subst, arith}
 use Rattle.std.proofs.lemmas.List.Sums.{sum_by-cons}
 use Rattle.std.specs.Cmp.{first_so, second_so}
 use Rattle.std.specs.Cmp.Lexicographic as lexicographic
@@ -15,7 +16,8 @@ use Rattle.ba_tree.specs.declared.trees.Content.TheViews as v
 use Rattle.ba_tree.specs.declared.trees.Content.TheVariants.{Child, Text, outs-Child, outs-Text, rolls-Child, rolls-Text}
 use Rattle.ba_tree.specs.declared.trees.Content.TheFolds.{fold_out-Tree, fold-roll-Content}
 use Rattle.ba_tree.specs.Lengths.{tree_length, part_length}
-use Rattle.ba_tree.specs.Same.{same_name, same_attribute, same_content, same_tree, same_content_step, same_tree_step, all_in_place, same_part}
+use Rattle.ba_tree.specs.Same.{same_name, same_attribute, same_content, same_tree, same_content_step, same_tree_step, all_in_place}
+use Rattle.ba_tree.specs.Same.{same_part}
 use Rattle.ba_tree.proofs.TreeLaws.{content_is, length_in, length_child}
 
 both : (a b : Bool) → a ≡ true → b ≡ true → (a && b) ≡ true
@@ -72,10 +74,12 @@ module _ {X : Type 0} (test : X → X → Bool) where
 -- ---- the tests of content and of trees, one level down
 
 pub same_in : (t u : Tree)
-    → same_tree t u ≡ (same_name t.name u.name && (pointwise same_attribute t.attributes u.attributes && pointwise same_content t.content u.content))
+    → same_tree t u ≡ (same_name t.name u.name
+    && (pointwise same_attribute t.attributes u.attributes && pointwise same_content t.content u.content))
 same_in t u =
     ap (λ test. test u) (fold_out-Tree (Content → Bool) (Tree → Bool) same_content_step same_tree_step t)
-    ∙ ap (λ b. same_name t.name u.name && (pointwise same_attribute t.attributes u.attributes && b)) (in_place same_content t.content u.content)
+    ∙ ap (λ b. same_name t.name u.name && (pointwise same_attribute t.attributes u.attributes && b))
+    (in_place same_content t.content u.content)
 
 text_before : (text : List ℕ) (d : Content) → same_content (Text text) d ≡ same_part (o.Text text) (v.out-Content d)
 text_before text d =
@@ -146,7 +150,8 @@ trees_equal_to (suc n) t u short h =
     let all = sym (same_in t u) ∙ h in
     let more = pointwise same_attribute t.attributes u.attributes && pointwise same_content t.content u.content in
     let later = second_so (same_name t.name u.name) more all in
-    let attributes_same = first_so (pointwise same_attribute t.attributes u.attributes) (pointwise same_content t.content u.content) later in
+    let attributes_same = first_so (pointwise same_attribute t.attributes u.attributes)
+    (pointwise same_content t.content u.content) later in
     let content_same = second_so (pointwise same_attribute t.attributes u.attributes) (pointwise same_content t.content u.content) later in
     let name = names_equal t.name u.name (first_so (same_name t.name u.name) more all) in
     let attributes = lists_equal same_attribute attributes_equal t.attributes u.attributes attributes_same in
@@ -177,7 +182,8 @@ tree_itself_to (suc n) t short =
     let attributes = list_itself same_attribute attribute_itself t.attributes in
     same_in t t
     ∙ both (same_name t.name t.name) (pointwise same_attribute t.attributes t.attributes && pointwise same_content t.content t.content)
-    (name_itself t.name) (both (pointwise same_attribute t.attributes t.attributes) (pointwise same_content t.content t.content) attributes contents)
+    (name_itself t.name) (both (pointwise same_attribute t.attributes t.attributes) (pointwise same_content t.content t.content)
+    attributes contents)
 
 -- ---- all content and all trees
 

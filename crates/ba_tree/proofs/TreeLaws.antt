@@ -8,7 +8,8 @@ use Rattle.ba_tree.specs.declared.trees.Content.TheOpen as o
 use Rattle.ba_tree.specs.declared.trees.Content.TheViews as v
 use Rattle.ba_tree.specs.declared.trees.Content.TheFolds.{fold_out-Tree, fold-roll-Content}
 use Rattle.ba_tree.specs.declared.trees.Content.TheVariants.{Child, Text, rolls-Child, rolls-Text}
-use Rattle.ba_tree.specs.Trees.{Part, Element, Within, within_content, within_tree, elements, within, element_of, content_levels, tree_levels, levels, levels_of, joined, greatest}
+use Rattle.ba_tree.specs.Trees.{Part, Element, Within, within_content, within_tree, elements, within, element_of, content_levels}
+use Rattle.ba_tree.specs.Trees.{tree_levels, levels, levels_of, joined, greatest}
 use Rattle.ba_tree.specs.Lengths.{content_length, element_length, tree_length, part_length, name_length, attribute_length, text_length}
 
 -- content is a text or an element
@@ -39,8 +40,10 @@ sum-map : {X : Type 0} (f : X → ℕ) (xs : List X) → sum (map f xs) ≡ sum_
 sum-map f [] = refl
 sum-map f (x ∷ xs) = sum_by-cons (λ n. n) (f x) (map f xs) ∙ ap (λ n. f x + n) (sum-map f xs) ∙ sym (sum_by-cons f x xs)
 
-pub length_in : (t : Tree) → tree_length t ≡ name_length t.name + ((1 + sum_by attribute_length t.attributes) + (2 + sum_by part_length t.content))
-length_in t = fold_out-Tree ℕ ℕ content_length element_length t ∙ ap (λ n. name_length t.name + ((1 + sum_by attribute_length t.attributes) + (2 + n))) (sum-map part_length t.content)
+pub length_in : (t : Tree) → tree_length t
+    ≡ name_length t.name + ((1 + sum_by attribute_length t.attributes) + (2 + sum_by part_length t.content))
+length_in t = fold_out-Tree ℕ ℕ content_length element_length t
+    ∙ ap (λ n. name_length t.name + ((1 + sum_by attribute_length t.attributes) + (2 + n))) (sum-map part_length t.content)
 
 pub length_text : (t : List ℕ) → part_length (Text t) ≡ 1 + text_length t
 length_text t = ap part_length (sym (rolls-Text t)) ∙ fold-roll-Content ℕ ℕ content_length element_length (o.Text t)
@@ -54,4 +57,6 @@ map-map f g (x ∷ xs) = ap (λ ys. g (f x) ∷ ys) (map-map f g xs)
 
 -- the elements of a tree: its own, and then those of each part in turn
 pub elements_in : (t : Tree) → elements t ≡ element_of t ∷ joined (map (λ c. (within c).elements) t.content)
-elements_in t = fold_out-Tree Within (List Element) within_content within_tree t ∙ (λ i. record { name = t.name; attributes = t.attributes; parts = map-map within (λ c. c.part) t.content i } ∷ joined (map-map within (λ c. c.elements) t.content i))
+elements_in t = fold_out-Tree Within (List Element) within_content within_tree t
+    ∙ (λ i. record { name = t.name; attributes = t.attributes; parts = map-map within (λ c. c.part) t.content i }
+    ∷ joined (map-map within (λ c. c.elements) t.content i))

@@ -9,7 +9,8 @@ is_within low high c = nat_le low c && nat_le c high
 
 -- Char (section 2.2): tab, line feed, carriage return, and three ranges
 abbrev pub is_legal : ℕ → Bool
-is_legal c = ((c == 0x9 || c == 0xA) || c == 0xD) || (is_within 0x20 0xD7FF c || (is_within 0xE000 0xFFFD c || is_within 0x10000 0x10FFFF c))
+is_legal c = ((c == 0x9 || c == 0xA) || c == 0xD)
+    || (is_within 0x20 0xD7FF c || (is_within 0xE000 0xFFFD c || is_within 0x10000 0x10FFFF c))
 
 -- white space (S, section 2.3): space, tab, carriage return, line feed
 abbrev pub is_white : ℕ → Bool

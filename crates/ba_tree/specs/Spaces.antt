@@ -11,7 +11,8 @@ is_noted known x = bytes_eq x [] || list_any (bytes_eq x) known
 
 -- the row after one namespace more; none where it would be too long
 abbrev pub noted : ℕ → List (List ℕ) → List ℕ → Option (List (List ℕ))
-noted most known x = elim (is_noted known x) [ true ↦ Some known | false ↦ elim (nat_lt (length known) most) [ true ↦ Some (known ++ x ∷ []) | false ↦ None ] ]
+noted most known x = elim (is_noted known x)
+    [ true ↦ Some known | false ↦ elim (nat_lt (length known) most) [ true ↦ Some (known ++ x ∷ []) | false ↦ None ] ]
 
 abbrev pub go_on : Option (List (List ℕ)) → (List (List ℕ) → Option (List (List ℕ))) → Option (List (List ℕ))
 go_on None more = None

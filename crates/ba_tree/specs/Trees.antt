@@ -55,7 +55,8 @@ within_content (Content-F.Text t) = record { part = text t; elements = [] }
 within_content (Content-F.Child es) = record { part = child; elements = es }
 
 abbrev pub within_tree : Tree-F Within (List Element) → List Element
-within_tree t = record { name = t.name; attributes = t.attributes; parts = map (λ c. c.part) t.content } ∷ joined (map (λ c. c.elements) t.content)
+within_tree t = record { name = t.name; attributes = t.attributes; parts = map (λ c. c.part) t.content }
+    ∷ joined (map (λ c. c.elements) t.content)
 
 abbrev pub elements : Tree → List Element
 elements = fold-Tree Within (List Element) within_content within_tree
@@ -147,7 +148,8 @@ abbrev pub texts_apart : List Part → Bool
 texts_apart = all_adjacent (λ p q. not (is_text p && is_text q))
 
 abbrev pub is_fit_element : Element → Bool
-is_fit_element e = (is_fit_name e.name && (list_all is_fit_attribute e.attributes && rises e.attributes)) && (list_all is_fit_part e.parts && texts_apart e.parts)
+is_fit_element e = (is_fit_name e.name && (list_all is_fit_attribute e.attributes && rises e.attributes))
+    && (list_all is_fit_part e.parts && texts_apart e.parts)
 
 -- every element of the tree keeps the rules: plain names, legal characters, no declarations, attributes in
 -- rising order, texts that are neither empty nor beside another

@@ -1,5 +1,6 @@
 -- No tree is refused for want of memory, or as no text of XML: for the law of the first, and for `decode`.
-use Rattle.std.proofs.Common.{◌≢◌, ℕ, Bool, true, false, ◌&&◌, List, [], ◌∷◌, ◌++◌, Option, Some, None, Result, Ok, Err, if◌then◌else◌, subst, bytes_eq}
+use Rattle.std.proofs.Common.{◌≢◌, ℕ, Bool, true, false, ◌&&◌, List, [], ◌∷◌, ◌++◌, Option, Some, None, Result, Ok, Err, if◌then◌else◌}
+use Rattle.std.proofs.Common.{subst, bytes_eq}
 use Rattle.std.specs.Prelude.{codes, filter}
 use Rattle.std.specs.List.{list_any, position}
 use Rattle.ba_tree.specs.declared.trees.Tree.{Tree}
@@ -13,14 +14,18 @@ use Rattle.ba_soap.specs.declared.headers.Header.TheVariants as header
 use Rattle.ba_soap.specs.declared.headers.ReplyTo.{ReplyTo}
 use Rattle.ba_soap.specs.declared.headers.SoapFault.{SoapFault}
 use Rattle.ba_soap.specs.declared.headers.SoapFault.TheVariants as soap
-use Rattle.ba_soap.specs.Envelopes.{Dialect, action_fault, answer_by_body, answer_by_parts, answer_unless_refused, block_fault, blocks_refusal, envelope_answer, envelope_by_blocks, first_fault, first_invalid_header, first_refusal, has_bad_flag, header_of, header_text, invalid_header, is_called, is_invalid, is_looked_at, is_not_understood, is_part, refusal_by}
+use Rattle.ba_soap.specs.Envelopes.{Dialect, action_fault, answer_by_body, answer_by_parts, answer_unless_refused, block_fault}
+use Rattle.ba_soap.specs.Envelopes.{blocks_refusal, envelope_answer, envelope_by_blocks, first_fault, first_invalid_header, first_refusal}
+use Rattle.ba_soap.specs.Envelopes.{has_bad_flag, header_of, header_text, invalid_header, is_called, is_invalid, is_looked_at}
+use Rattle.ba_soap.specs.Envelopes.{is_not_understood, is_part, refusal_by}
 use Rattle.ba_wire.specs.declared.bodies.Body.{Body}
 use Rattle.ba_wire.specs.declared.bodies.Body.TheVariants as body
 use Rattle.ba_wire.specs.declared.faults.WireFault.{WireFault}
 use Rattle.ba_wire.specs.declared.faults.WireFault.TheVariants as fault
 use Rattle.ba_wire.specs.Actions.{body_name, body_of, body_space, fault_actions}
 use Rattle.ba_wire.specs.Bodies.{body_look}
-use Rattle.ba_wire.specs.Meaning.{answer_by_envelope, answer_by_reply, answer_by_shape, answer_of_body, asks_for_reply, body_named, is_elsewhere, reply_refusal, reply_rule, tree_answer, which_body, wire_fault_at}
+use Rattle.ba_wire.specs.Meaning.{answer_by_envelope, answer_by_reply, answer_by_shape, answer_of_body, asks_for_reply, body_named}
+use Rattle.ba_wire.specs.Meaning.{is_elsewhere, reply_refusal, reply_rule, tree_answer, which_body, wire_fault_at}
 
 -- ---- the refusals of header blocks
 

@@ -62,7 +62,8 @@ pub meant_is_answered :
     → IsXmlText bytes tree → Means soap11 tree x → IsWireAnswer (Ok x) answer
 meant_is_answered bytes answer is tree x text means = subst (λ expected. IsWireAnswer expected answer) means (is (Ok tree) text)
 
-of_tree : (bytes : List ℕ) (t : Tree) (f : WireFault) → IsXmlText bytes t → tree_answer soap11 t ≡ Err f → IsOtherWire f → IsNoMessage bytes f
+of_tree : (bytes : List ℕ) (t : Tree) (f : WireFault) → IsXmlText bytes t → tree_answer soap11 t ≡ Err f → IsOtherWire f
+    → IsNoMessage bytes f
 of_tree bytes t fault.Memory text is other = other
 of_tree bytes t (fault.Xml reason place) text is other = absurd other
 of_tree bytes t (fault.Soap f) text is other = (t, text, is)

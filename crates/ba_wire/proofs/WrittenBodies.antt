@@ -31,11 +31,17 @@ use Rattle.ba_tree.specs.declared.trees.Name.{Name}
 use Rattle.ba_tree.specs.declared.trees.Tree.{Tree}
 use Rattle.ba_wire.specs.declared.bodies.Body.TheVariants as body
 use Rattle.ba_wire.specs.declared.forms.Whole.{Whole}
-use Rattle.ba_wire.specs.Bodies.{body_look, code_of, context_in, coordination_context_line, coordination_type_line, coordinator_service_line, current_context_line, empty_context, endpoint_in, expires_line, fault_code_line, in_whole, is_upward, kind_of, lines_of_body, message_of, number_in, participant_service_line, protocol_identifier_line, protocol_of, state_line, state_of, up_in, upward_line, value_or, whole_look}
+use Rattle.ba_wire.specs.Bodies.{body_look, code_of, context_in, coordination_context_line, coordination_type_line}
+use Rattle.ba_wire.specs.Bodies.{coordinator_service_line, current_context_line, empty_context, endpoint_in, expires_line, fault_code_line}
+use Rattle.ba_wire.specs.Bodies.{in_whole, is_upward, kind_of, lines_of_body, message_of, number_in, participant_service_line}
+use Rattle.ba_wire.specs.Bodies.{protocol_identifier_line, protocol_of, state_line, state_of, up_in, upward_line, value_or, whole_look}
 use Rattle.ba_wire.specs.Contexts.{IsPlainContext, TimeFits}
-use Rattle.ba_wire.specs.Elements.{bare_name, body_element, body_of_message, body_parts, current_part, expires_part, family_of, own_name, prefix_of_family, protocol_uri, text_in_element, type_part, upward_part, wsba_name, wscoor_name}
-use Rattle.ba_wire.specs.Envelopes.{ContextFits, ContextTimeFits, EndpointsFit, TimesFit, has_bare_identifiers, is_bare_context, is_known, is_known_context}
-use Rattle.ba_wire.proofs.WrittenContexts.{context_holds, context_is, expires_read, fine_by, kind_fine, kind_read, number_fine, text_fine, text_is}
+use Rattle.ba_wire.specs.Elements.{bare_name, body_element, body_of_message, body_parts, current_part, expires_part, family_of, own_name}
+use Rattle.ba_wire.specs.Elements.{prefix_of_family, protocol_uri, text_in_element, type_part, upward_part, wsba_name, wscoor_name}
+use Rattle.ba_wire.specs.Envelopes.{ContextFits, ContextTimeFits, EndpointsFit, TimesFit, has_bare_identifiers, is_bare_context, is_known}
+use Rattle.ba_wire.specs.Envelopes.{is_known_context}
+use Rattle.ba_wire.proofs.WrittenContexts.{context_holds, context_is, expires_read, fine_by, kind_fine, kind_read, number_fine, text_fine}
+use Rattle.ba_wire.proofs.WrittenContexts.{text_is}
 
 -- the element of a message has the shape of its body, and says the message
 pub record IsReadBack (m : Message) : Type 0 where

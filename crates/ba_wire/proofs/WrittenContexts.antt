@@ -19,7 +19,8 @@ use Rattle.ba_soap.specs.Elements.{is_bare_text}
 use Rattle.ba_tree.specs.Characters.{has_bare_ends}
 use Rattle.ba_tree.specs.declared.trees.Name.{Name}
 use Rattle.ba_tree.specs.declared.trees.Tree.{Tree}
-use Rattle.ba_wire.specs.Bodies.{context_lines, context_of, coordination_type_line, endpoint_at, endpoint_in, expires_line, identifier_line, kind_of, number_at, number_by, number_in, part_look, registration_service_line}
+use Rattle.ba_wire.specs.Bodies.{context_lines, context_of, coordination_type_line, endpoint_at, endpoint_in, expires_line, identifier_line}
+use Rattle.ba_wire.specs.Bodies.{kind_of, number_at, number_by, number_in, part_look, registration_service_line}
 use Rattle.ba_wire.specs.declared.forms.Part.{Part}
 use Rattle.ba_wire.specs.Contexts.{IsPlainContext, TimeFits, context_answer, context_answer_by}
 use Rattle.ba_wire.specs.Elements.{context_element, context_parts, expires_part, kind_uri, text_in_element, type_part, wscoor_name}
@@ -134,7 +135,8 @@ module _ (local : List ℕ) (c : Context) (is_plain : IsPlainContext c) (small :
 
   type_fine : Fine part_look coordination_type_line (named_by coordination_type_line)
   type_fine =
-      fine_by part_look coordination_type_line (named_by coordination_type_line) (type_part c.kind ∷ []) found.2 (kind_fine c.kind is_plain.known)
+      fine_by part_look coordination_type_line (named_by coordination_type_line) (type_part c.kind ∷ []) found.2
+      (kind_fine c.kind is_plain.known)
 
   service_fine : Fine part_look registration_service_line (named_by registration_service_line)
   service_fine =
@@ -151,8 +153,10 @@ module _ (local : List ℕ) (c : Context) (is_plain : IsPlainContext c) (small :
   pub context_is : context_of (context_element local c) ≡ c
   context_is =
       let identifier : text_at identifier_line t ≡ c.identifier =
-      ap text_in (first_is identifier_line (identifier_part ∷ []) found.0) ∙ text_is (wscoor_name (codes "Identifier")) c.identifier is_plain.named in
-      let expires : number_at expires_line t ≡ c.expires = ap number_in (first_is expires_line (expires_part c.expires) found.1) ∙ expires_read c.expires small in
+      ap text_in (first_is identifier_line (identifier_part ∷ []) found.0)
+      ∙ text_is (wscoor_name (codes "Identifier")) c.identifier is_plain.named in
+      let expires : number_at expires_line t ≡ c.expires = ap number_in (first_is expires_line (expires_part c.expires) found.1)
+      ∙ expires_read c.expires small in
       let kind : kind_of (text_at coordination_type_line t) ≡ c.kind =
       ap (λ o. kind_of (text_in o)) (first_is coordination_type_line (type_part c.kind ∷ []) found.2) ∙ kind_read c.kind is_plain.known in
       let service : endpoint_at registration_service_line t ≡ c.registration =

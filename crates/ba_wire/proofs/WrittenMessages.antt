@@ -14,8 +14,10 @@ use Rattle.ba_wire.specs.declared.elements.Family.{Family}
 use Rattle.ba_wire.specs.declared.elements.Family.TheVariants as family
 use Rattle.ba_wire.specs.declared.routes.Route.{Route}
 use Rattle.ba_wire.specs.Elements.{body_of_message, family_of}
-use Rattle.ba_wire.specs.Envelopes.{CanEncode, HasEnvelope, TimesFit, action_for, envelope_of, envelope_text, envelope_tree, fault_action, is_numbered}
-use Rattle.ba_wire.specs.Meaning.{Means, answer_by_envelope, answer_by_reply, answer_by_shape, answer_of_body, asks_for_reply, reply_rule, which_body}
+use Rattle.ba_wire.specs.Envelopes.{CanEncode, HasEnvelope, TimesFit, action_for, envelope_of, envelope_text, envelope_tree, fault_action}
+use Rattle.ba_wire.specs.Envelopes.{is_numbered}
+use Rattle.ba_wire.specs.Meaning.{Means, answer_by_envelope, answer_by_reply, answer_by_shape, answer_of_body, asks_for_reply, reply_rule}
+use Rattle.ba_wire.specs.Meaning.{which_body}
 use Rattle.ba_wire.proofs.WrittenBodies.{IsReadBack, body_reads_back}
 use Rattle.ba_xml.proofs.RoundTrip.{round_trip}
 use Rattle.ba_xml_grammar.specs.GrammarTexts.{IsXmlText}

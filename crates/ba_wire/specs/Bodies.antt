@@ -105,7 +105,8 @@ lines_of_body body.Register = protocol_identifier_line ∷ participant_service_l
 lines_of_body body.Registered = coordinator_service_line ∷ []
 lines_of_body body.Status = state_line ∷ []
 lines_of_body (body.Notice n) = []
-lines_of_body body.Fault = fault_code_line ∷ skipped_line (codes "faultstring") ∷ skipped_line (codes "faultactor") ∷ skipped_line (codes "detail") ∷ []
+lines_of_body body.Fault = fault_code_line ∷ skipped_line (codes "faultstring") ∷ skipped_line (codes "faultactor")
+    ∷ skipped_line (codes "detail") ∷ []
 
 abbrev pub body_look : Body → Look
 body_look b = rows_misfit whole_look (lines_of_body b)
@@ -190,7 +191,8 @@ up_in None = Pc
 up_in (Some t) = if bytes_eq (own_texts t.content) (codes "cc") then Cc else Pc
 
 abbrev pub message_of : Body → Tree → Message
-message_of body.Create t = message.Create (number_at (in_whole expires_line) t) (context_in (child_at current_context_line t)) (kind_of (text_at (in_whole coordination_type_line) t)) (up_in (child_at upward_line t))
+message_of body.Create t = message.Create (number_at (in_whole expires_line) t) (context_in (child_at current_context_line t))
+    (kind_of (text_at (in_whole coordination_type_line) t)) (up_in (child_at upward_line t))
 message_of body.Created t = message.Created (value_or empty_context (context_in (child_at coordination_context_line t)))
 message_of body.Register t = message.Register (protocol_of (text_at protocol_identifier_line t)) (endpoint_at participant_service_line t)
 message_of body.Registered t = message.Registered (endpoint_at coordinator_service_line t)

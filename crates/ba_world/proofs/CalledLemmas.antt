@@ -12,7 +12,8 @@ use Rattle.ba_places.specs.Calls.{IsOfInput}
 use Rattle.ba_places.specs.declared.calls.Answer.{Answer}
 use Rattle.ba_places.specs.declared.calls.Answer.TheVariants as answer
 use Rattle.ba_places.specs.declared.places.Place.{Place}
-use Rattle.ba_play.specs.Plays.{WorldOnDisks, context_handed, create_at, deliver, delivery_by_input, has_node, join_at, lost_effect, mail_at, moment, own_at, scope_named}
+use Rattle.ba_play.specs.Plays.{WorldOnDisks, context_handed, create_at, deliver, delivery_by_input, has_node, join_at, lost_effect}
+use Rattle.ba_play.specs.Plays.{mail_at, moment, own_at, scope_named}
 use Rattle.ba_runs.specs.World.{Occasion, delivers}
 use Rattle.ba_scope.specs.Scope.{ScopeState}
 use Rattle.ba_steps.specs.declared.answers.Reply.{Reply}
@@ -27,7 +28,8 @@ use Rattle.ba_world.specs.declared.faults.StepFault.{StepFault}
 use Rattle.ba_world.specs.declared.faults.StepFault.TheVariants as fault
 use Rattle.ba_world.specs.declared.messages.Delivery.{Delivery}
 use Rattle.ba_world.specs.declared.outcomes.Makes.{Makes}
-use Rattle.ba_world.specs.inside.Stages.{AreMade, Arrives, IsArrival, IsCalled, IsContextNamed, IsKindNamed, IsNotCalled, IsReplyAt, IsReplySent, StageIsPlayedAs, lost_at, node_call_at, place_at}
+use Rattle.ba_world.specs.inside.Stages.{AreMade, Arrives, IsArrival, IsCalled, IsContextNamed, IsKindNamed, IsNotCalled, IsReplyAt}
+use Rattle.ba_world.specs.inside.Stages.{IsReplySent, StageIsPlayedAs, lost_at, node_call_at, place_at}
 
 -- ---- a scope that is named
 

@@ -1,5 +1,6 @@
 -- What a delivery makes of what is played is its effect; for the clauses of `deliver`.
-use Rattle.std.proofs.Common.{◌≡◌, ℕ, ◌+◌, Bool, true, false, [], ◌∷◌, ◌++◌, length, Option, None, Some, Result, Ok, Err, refl, sym, ap, ◌∙◌, subst, if◌then◌else◌}
+use Rattle.std.proofs.Common.{◌≡◌, ℕ, ◌+◌, Bool, true, false, [], ◌∷◌, ◌++◌, length, Option, None, Some, Result, Ok, Err, refl, sym, ap}
+use Rattle.std.proofs.Common.{◌∙◌, subst, if◌then◌else◌}
 use Rattle.std.specs.Option.{option_to_list}
 use Rattle.ba_arrivals.specs.declared.mails.Mail.TheVariants as mail
 use Rattle.ba_core.specs.declared.identifiers.Id.{Id}
@@ -15,7 +16,8 @@ use Rattle.ba_play.proofs.Posted.{occasion_gives}
 use Rattle.ba_play.specs.Arrivals.{Arrival, arrival}
 use Rattle.ba_play.specs.Nodes.{NodeCall}
 use Rattle.ba_play.specs.Outcomes.{delivery_outcome, label_of, reply_outcome}
-use Rattle.ba_play.specs.Plays.{WorldEffect, WorldOnDisks, deliver, delivery_by_input, delivery_effect, effect_by_shown, effect_with, has_node, if_has_node, mail_at, moment, next_number, with_node, with_sent}
+use Rattle.ba_play.specs.Plays.{WorldEffect, WorldOnDisks, deliver, delivery_by_input, delivery_effect, effect_by_shown, effect_with}
+use Rattle.ba_play.specs.Plays.{has_node, if_has_node, mail_at, moment, next_number, with_node, with_sent}
 use Rattle.ba_play.specs.declared.missing.Missing.TheVariants as missing
 use Rattle.ba_runs.proofs.Recorded.{run_keeps}
 use Rattle.ba_runs.specs.World as runs
@@ -35,7 +37,8 @@ use Rattle.ba_world.specs.declared.faults.StepFault.TheVariants as fault
 use Rattle.ba_world.specs.declared.messages.Delivery.{Delivery}
 use Rattle.ba_world.specs.declared.outcomes.Makes.{Makes}
 use Rattle.ba_world.specs.inside.Shown.{reply_shown}
-use Rattle.ba_world.specs.inside.Stages.{AreMade, Arrives, IsArrival, IsCalled, IsReplyAt, IsReplySent, StageIsPlayedAs, node_call_at, number_answered}
+use Rattle.ba_world.specs.inside.Stages.{AreMade, Arrives, IsArrival, IsCalled, IsReplyAt, IsReplySent, StageIsPlayedAs, node_call_at}
+use Rattle.ba_world.specs.inside.Stages.{number_answered}
 
 -- ---- which message
 

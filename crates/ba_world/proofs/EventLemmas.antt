@@ -1,6 +1,7 @@
 -- What an event makes of what is played is its effect: what is no call, an opening, an input of the node's own, a tick. For the clauses
 -- of events.
-use Rattle.std.proofs.Common.{◌≡◌, ℕ, suc, ◌+◌, ◌-◌, ◌^◌, min, Result, Bool, true, List, [], ◌∷◌, ◌++◌, length, map, Option, None, Some, Ok, Err, refl, sym, ap, ◌∙◌, subst, if◌then◌else◌, arith}
+use Rattle.std.proofs.Common.{◌≡◌, ℕ, suc, ◌+◌, ◌-◌, ◌^◌, min, Result, Bool, true, List, [], ◌∷◌, ◌++◌, length, map, Option, None, Some, Ok}
+use Rattle.std.proofs.Common.{Err, refl, sym, ap, ◌∙◌, subst, if◌then◌else◌, arith}
 use Rattle.std.specs.Option.{option_map, option_to_list}
 use Rattle.std.proofs.lemmas.List.{append-nil}
 use Rattle.ba_arrivals.specs.Mails.{mail_of}
@@ -19,7 +20,8 @@ use Rattle.ba_places.specs.declared.calls.Answer.TheVariants as answer
 use Rattle.ba_places.specs.declared.places.Place.{Place}
 use Rattle.ba_play.specs.Nodes.{NodeCall, NodeOnDisk, call_by_mode, node_call}
 use Rattle.ba_play.specs.Outcomes.{label_of, reply_outcome, tick_outcome}
-use Rattle.ba_play.specs.Plays.{EventEffect, WorldEffect, WorldOnDisks, effect_by_shown, effect_of_call, effect_with, has_node, if_has_node, moment, next_number, own_at, wait_effect, with_node, with_sent}
+use Rattle.ba_play.specs.Plays.{EventEffect, WorldEffect, WorldOnDisks, effect_by_shown, effect_of_call, effect_with, has_node, if_has_node}
+use Rattle.ba_play.specs.Plays.{moment, next_number, own_at, wait_effect, with_node, with_sent}
 use Rattle.ba_play.specs.declared.missing.Missing.TheVariants as missing
 use Rattle.ba_runs.specs.World as runs
 use Rattle.ba_runs.specs.World.{Mode, Occasion, WorldNode, is_closed, is_down, is_up, own, ticks}
@@ -35,7 +37,8 @@ use Rattle.ba_world.specs.declared.faults.StepFault.{StepFault}
 use Rattle.ba_world.specs.declared.faults.StepFault.TheVariants as fault
 use Rattle.ba_world.specs.declared.outcomes.Makes.{Makes}
 use Rattle.ba_world.specs.inside.Shown.{answer_shown, is_child, next_made, reply_shown}
-use Rattle.ba_world.specs.inside.Stages.{AreMade, IsCalled, IsLetterAt, IsNotCalled, IsNotThere, IsReplyAt, IsTakenOut, StageIsPlayedAs, StagePlays, node_call_at, tick_at, with_place}
+use Rattle.ba_world.specs.inside.Stages.{AreMade, IsCalled, IsLetterAt, IsNotCalled, IsNotThere, IsReplyAt, IsTakenOut, StageIsPlayedAs}
+use Rattle.ba_world.specs.inside.Stages.{StagePlays, node_call_at, tick_at, with_place}
 
 -- ---- where there was no memory, and where there is no such node
 

@@ -1,5 +1,6 @@
 -- After an event the world is that of the play after it, whose worlds are a run; for the clauses of `step`.
-use Rattle.std.proofs.Common.{◌≡◌, ℕ, ◌+◌, ◌-◌, ◌<◌, ◌^◌, false, ◌∷◌, length, slice_get, Option, None, Some, Result, Ok, Err, refl, sym, ap, subst, arith}
+use Rattle.std.proofs.Common.{◌≡◌, ℕ, ◌+◌, ◌-◌, ◌<◌, ◌^◌, false, ◌∷◌, length, slice_get, Option, None, Some, Result, Ok, Err, refl, sym, ap}
+use Rattle.std.proofs.Common.{subst, arith}
 use Rattle.ba_events.specs.declared.events.Event.{Event}
 use Rattle.ba_events.specs.declared.outcomes.Outcome.{Outcome}
 use Rattle.ba_memory.specs.DiskValue.{MediumValue}

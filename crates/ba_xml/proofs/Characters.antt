@@ -1,5 +1,6 @@
 -- The one text is UTF-8 of legal characters, and has no carriage return.
-use Rattle.std.proofs.Common.{◌≡◌, ℕ, ◌+◌, ◌≤◌, ◌<◌, Bool, true, false, cond, not, ◌&&◌, ◌==◌, nat_lt, nat_le, Option, Some, None, List, [], ◌∷◌, ◌++◌, encode_utf8_all, if◌then◌else◌, nat_eq, codes, refl, sym, ap, ◌∙◌, subst, arith}
+use Rattle.std.proofs.Common.{◌≡◌, ℕ, ◌+◌, ◌≤◌, ◌<◌, Bool, true, false, cond, not, ◌&&◌, ◌==◌, nat_lt, nat_le, Option, Some, None, List, []}
+use Rattle.std.proofs.Common.{◌∷◌, ◌++◌, encode_utf8_all, if◌then◌else◌, nat_eq, codes, refl, sym, ap, ◌∙◌, subst, arith}
 use Rattle.std.proofs.lemmas.Bool.{ltb-true, ltb-false}
 use Rattle.std.proofs.lemmas.Bool.Decides.{nat_tests}
 use Rattle.std.specs.Char.{encode_utf8}
@@ -15,7 +16,8 @@ use Rattle.ba_xml_grammar.specs.GrammarWords.{Each, IsPlainName, is_name_letter}
 use Rattle.ba_xml_names.specs.declared.levels.Declaration as reader
 use Rattle.ba_xml_writer.proofs.Resolved.{spelled_by}
 use Rattle.ba_xml_writer.specs.Namespaces.{Declaration}
-use Rattle.ba_xml_writer.specs.OneText.{Escape, text_escapes, value_escapes, spelled, escaped, qualified, valued, declarations, attributes, element, is_end, item, row_items}
+use Rattle.ba_xml_writer.specs.OneText.{Escape, text_escapes, value_escapes, spelled, escaped, qualified, valued, declarations, attributes}
+use Rattle.ba_xml_writer.specs.OneText.{element, is_end, item, row_items}
 use Rattle.ba_xml_writer.specs.Resolving.{prefix_of, before_colon}
 use Rattle.ba_xml.proofs.Fine.{IsLegal, AreFine, IsFineTag, IsFine, IsFineRow}
 use Rattle.ba_xml.proofs.LegalTexts.{IsHigh, high_bytes}
@@ -70,9 +72,11 @@ high_spelled (e ∷ es) low b rest h =
     let lows : (is_low e ≡ true) × (list_all is_low es ≡ true) = both (is_low e) (list_all is_low es) low in
     ap (λ x. if x then e.spelling ++ rest else spelled es b rest) (differs b e.byte h lows.0) ∙ high_spelled es lows.1 b rest h
 
-high_escaped : (es : List Escape) → list_all is_low es ≡ true → (bs more rest : List ℕ) → IsHigh bs → escaped es (bs ++ more) rest ≡ bs ++ escaped es more rest
+high_escaped : (es : List Escape) → list_all is_low es ≡ true → (bs more rest : List ℕ) → IsHigh bs
+    → escaped es (bs ++ more) rest ≡ bs ++ escaped es more rest
 high_escaped es low [] more rest h = refl
-high_escaped es low (b ∷ bs) more rest h = high_spelled es low b (escaped es (bs ++ more) rest) h.0 ∙ ap (λ l. b ∷ l) (high_escaped es low bs more rest h.1)
+high_escaped es low (b ∷ bs) more rest h =
+    high_spelled es low b (escaped es (bs ++ more) rest) h.0 ∙ ap (λ l. b ∷ l) (high_escaped es low bs more rest h.1)
 
 kept_high : (c : ℕ) → is_legal c ≡ true → 128 ≤ c → is_kept c ≡ true
 kept_high c l h = joined (is_legal c) (not (c == 13)) l (other c h)
@@ -82,11 +86,13 @@ kept_high c l h = joined (is_legal c) (not (c == 13)) l (other c h)
 
 module _ (es : List Escape) (low : list_all is_low es ≡ true)
     (step : (c : ℕ) (rest : List ℕ) → is_legal c ≡ true → c < 128 → IsClean rest → IsClean (spelled es c rest)) where
-  character_escaped : (c : ℕ) (more rest : List ℕ) → is_legal c ≡ true → IsClean (escaped es more rest) → IsClean (escaped es (encode_utf8 c ++ more) rest)
+  character_escaped : (c : ℕ) (more rest : List ℕ) → is_legal c ≡ true → IsClean (escaped es more rest)
+      → IsClean (escaped es (encode_utf8 c ++ more) rest)
   character_escaped c more rest l r = by (nat_lt c 128) refl
     where
       by : (x : Bool) → nat_lt c 128 ≡ x → IsClean (escaped es (encode_utf8 c ++ more) rest)
-      by true e = subst (λ bs. IsClean (escaped es (bs ++ more) rest)) (sym (encoded_one c (ltb-true c 128 e))) (step c (escaped es more rest) l (ltb-true c 128 e) r)
+      by true e = subst (λ bs. IsClean (escaped es (bs ++ more) rest)) (sym (encoded_one c (ltb-true c 128 e)))
+          (step c (escaped es more rest) l (ltb-true c 128 e) r)
       by false e = subst IsClean (sym (high_escaped es low (encode_utf8 c) more rest (high_bytes c (ltb-false c 128 e))))
           (clean_character c (escaped es more rest) (kept_high c l (ltb-false c 128 e)) r)
 
@@ -157,44 +163,54 @@ clean_declarations : (own : List Declaration) (rest : List ℕ) → AreDeclarabl
 clean_declarations [] rest d r = r
 clean_declarations (d ∷ own) rest f r =
     clean_front (codes " xmlns:") (d.prefix ++ valued d.space (declarations own rest)) refl
-    (clean_front d.prefix (valued d.space (declarations own rest)) (plain_printed d.prefix f.0.0) (clean_value d.space (declarations own rest) f.0.2 (clean_declarations own rest f.1 r)))
+    (clean_front d.prefix (valued d.space (declarations own rest)) (plain_printed d.prefix f.0.0)
+    (clean_value d.space (declarations own rest) f.0.2 (clean_declarations own rest f.1 r)))
 
 -- ---- elements
 
 module _ (ds : List Declaration) (read : List reader.Declaration) (good : (space : List ℕ) → IsGood (prefix_of ds space)) where
   clean_name : (name : Name) (rest : List ℕ) → IsPlainName name.local → IsClean rest → IsClean (qualified ds name rest)
   clean_name name rest n r = subst IsClean (sym (spelled_by ds name.space (name.local ++ rest)))
-      (clean_prefix (prefix_of ds name.space) (name.local ++ rest) (good name.space) (clean_front name.local rest (plain_printed name.local n) r))
+      (clean_prefix (prefix_of ds name.space) (name.local ++ rest) (good name.space)
+      (clean_front name.local rest (plain_printed name.local n) r))
 
   clean_attributes : (atts : List Attribute) (rest : List ℕ) → AreFine ds read atts → IsClean rest → IsClean (attributes ds atts rest)
   clean_attributes [] rest f r = r
   clean_attributes (a ∷ more) rest f r =
       clean_front (codes " ") (qualified ds a.name (valued a.value (attributes ds more rest))) refl
-      (clean_name a.name (valued a.value (attributes ds more rest)) f.0.0.0 (clean_value a.value (attributes ds more rest) f.0.2 (clean_attributes more rest f.1 r)))
+      (clean_name a.name (valued a.value (attributes ds more rest)) f.0.0.0
+      (clean_value a.value (attributes ds more rest) f.0.2 (clean_attributes more rest f.1 r)))
 
-  clean_start : (own : List Declaration) (name : Name) (atts : List Attribute) (rest : List ℕ) → AreDeclarable own → IsFineTag ds read name atts → IsClean rest
+  clean_start : (own : List Declaration) (name : Name) (atts : List Attribute) (rest : List ℕ) → AreDeclarable own
+      → IsFineTag ds read name atts → IsClean rest
       → IsClean (codes "<" ++ qualified ds name (declarations own (attributes ds atts rest)))
   clean_start own name atts rest d f r =
       clean_front (codes "<") (qualified ds name (declarations own (attributes ds atts rest))) refl
-      (clean_name name (declarations own (attributes ds atts rest)) f.0.0 (clean_declarations own (attributes ds atts rest) d (clean_attributes atts rest f.1 r)))
+      (clean_name name (declarations own (attributes ds atts rest)) f.0.0
+      (clean_declarations own (attributes ds atts rest) d (clean_attributes atts rest f.1 r)))
 
-  pub clean_element : (own : List Declaration) (name : Name) (atts : List Attribute) (none : Bool) (inside : List ℕ → List ℕ) (rest : List ℕ)
+  pub clean_element : (own : List Declaration) (name : Name) (atts : List Attribute) (none : Bool) (inside : List ℕ
+      → List ℕ) (rest : List ℕ)
       → AreDeclarable own → IsFineTag ds read name atts
       → ((more : List ℕ) → IsClean more → IsClean (inside more)) → IsClean rest → IsClean (element ds own name atts none inside rest)
-  clean_element own name atts true inside rest d f i r = clean_start own name atts (codes "/>" ++ rest) d f (clean_front (codes "/>") rest refl r)
+  clean_element own name atts true inside rest d f i r =
+      clean_start own name atts (codes "/>" ++ rest) d f (clean_front (codes "/>") rest refl r)
   clean_element own name atts false inside rest d f i r =
       let last : List ℕ = codes "</" ++ qualified ds name (codes ">" ++ rest) in
       clean_start own name atts (codes ">" ++ inside last) d f
       (clean_front (codes ">") (inside last) refl
-      (i last (clean_front (codes "</") (qualified ds name (codes ">" ++ rest)) refl (clean_name name (codes ">" ++ rest) f.0.0 (clean_front (codes ">") rest refl r)))))
+      (i last (clean_front (codes "</") (qualified ds name (codes ">" ++ rest)) refl
+      (clean_name name (codes ">" ++ rest) f.0.0 (clean_front (codes ">") rest refl r)))))
 
   mutual
     clean_item : (level : ℕ) (c : Content) (rest : List ℕ) → IsFine ds read level c → IsClean rest → IsClean (item ds c rest)
     clean_item level (Text t) rest f r = clean_text t rest f.1 r
     clean_item level (Child' name atts shape row) rest f r =
-        clean_element [] name atts (is_end row) (λ more. row_items ds row more) rest tt f.0 (λ more m. clean_row (level + 1) row more f.3 m) r
+        clean_element [] name atts (is_end row) (λ more. row_items ds row more) rest tt f.0
+        (λ more m. clean_row (level + 1) row more f.3 m) r
 
-    pub clean_row : {m : _} (level : ℕ) (row : Row_of-Content m) (rest : List ℕ) → IsFineRow ds read level row → IsClean rest → IsClean (row_items ds row rest)
+    pub clean_row : {m : _} (level : ℕ) (row : Row_of-Content m) (rest : List ℕ) → IsFineRow ds read level row → IsClean rest
+        → IsClean (row_items ds row rest)
     clean_row level end_of-Content rest f r = r
     clean_row level (more_of-Content c row) rest f r = clean_item level c (row_items ds row rest) f.0 (clean_row level row rest f.2 r)
 
@@ -226,8 +242,10 @@ kept_lines (c ∷ cs) h = by (nat_lt c 128) refl (kept_lines cs (both (is_kept c
     no_return : (c == 13) ≡ false
     no_return = not_true (c == 13) (both (is_legal c) (not (c == 13)) hs.0).1
 
-    by : (x : Bool) → nat_lt c 128 ≡ x → lines false (encode_utf8_all cs) ≡ encode_utf8_all cs → lines false (encode_utf8 c ++ encode_utf8_all cs) ≡ encode_utf8 c ++ encode_utf8_all cs
-    by true e f = subst (λ bs. lines false (bs ++ encode_utf8_all cs) ≡ bs ++ encode_utf8_all cs) (sym (encoded_one c (ltb-true c 128 e))) (line_step c (encode_utf8_all cs) no_return f)
+    by : (x : Bool) → nat_lt c 128 ≡ x → lines false (encode_utf8_all cs) ≡ encode_utf8_all cs
+        → lines false (encode_utf8 c ++ encode_utf8_all cs) ≡ encode_utf8 c ++ encode_utf8_all cs
+    by true e f = subst (λ bs. lines false (bs ++ encode_utf8_all cs) ≡ bs ++ encode_utf8_all cs) (sym (encoded_one c (ltb-true c 128 e)))
+        (line_step c (encode_utf8_all cs) no_return f)
     by false e f = high_lines (encode_utf8 c) (encode_utf8_all cs) (high_bytes c (ltb-false c 128 e)) f
 
 -- the line ends are as they are written

@@ -35,14 +35,16 @@ second_false true b e h = h
 second_false false b e h = absurd (true≢false (sym e))
 
 -- each item that passes both tests passes one of both
-pub all_both : {X : Type 0} (p q : X → Bool) (xs : List X) → list_all p xs ≡ true → list_all q xs ≡ true → list_all (λ x. p x && q x) xs ≡ true
+pub all_both : {X : Type 0} (p q : X → Bool) (xs : List X) → list_all p xs ≡ true → list_all q xs ≡ true
+    → list_all (λ x. p x && q x) xs ≡ true
 all_both p q [] h k = refl
 all_both p q (x ∷ xs) h k =
     let hs : (p x ≡ true) × (list_all p xs ≡ true) = both (p x) (list_all p xs) h in
     let ks : (q x ≡ true) × (list_all q xs ≡ true) = both (q x) (list_all q xs) k in
     joined (p x && q x) (list_all (λ x. p x && q x) xs) (joined (p x) (q x) hs.0 ks.0) (all_both p q xs hs.1 ks.1)
 
-pub all_imply : {X : Type 0} (p q : X → Bool) → ((x : X) → p x ≡ true → q x ≡ true) → (xs : List X) → list_all p xs ≡ true → list_all q xs ≡ true
+pub all_imply : {X : Type 0} (p q : X → Bool) → ((x : X) → p x ≡ true → q x ≡ true) → (xs : List X) → list_all p xs ≡ true
+    → list_all q xs ≡ true
 all_imply p q f [] h = refl
 all_imply p q f (x ∷ xs) h =
     let hs : (p x ≡ true) × (list_all p xs ≡ true) = both (p x) (list_all p xs) h in

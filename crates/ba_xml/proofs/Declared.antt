@@ -1,5 +1,6 @@
 -- The declarations of the one text, and what a reader makes of them.
-use Rattle.std.proofs.Common.{◌≡◌, ℕ, ◌+◌, ◌≤◌, ◌<◌, ◌^◌, Bool, true, false, cond, not, ◌&&◌, ◌||◌, Option, Some, None, IsSome, List, [], ◌∷◌, ◌++◌, map, filter, length, if◌then◌else◌, codes, decimal, refl, sym, ap, ◌∙◌, subst, arith, true≢false}
+use Rattle.std.proofs.Common.{◌≡◌, ℕ, ◌+◌, ◌≤◌, ◌<◌, ◌^◌, Bool, true, false, cond, not, ◌&&◌, ◌||◌, Option, Some, None, IsSome, List, []}
+use Rattle.std.proofs.Common.{◌∷◌, ◌++◌, map, filter, length, if◌then◌else◌, codes, decimal, refl, sym, ap, ◌∙◌, subst, arith, true≢false}
 use Rattle.std.proofs.lemmas.Bool.Decides.{nat_tests}
 use Rattle.std.proofs.lemmas.Cmp.{nat_list_eq_equiv}
 use Rattle.std.proofs.lemmas.Fmt.{decimal_is_IsNumeral}
@@ -15,7 +16,8 @@ use Rattle.ba_xml_grammar.specs.GrammarWords.{Each, IsPlainName, is_name_letter}
 use Rattle.ba_xml_names.specs.Namespaces.{nearest, first_scope, is_lawful}
 use Rattle.ba_xml_names.specs.declared.levels.Declaration as reader
 use Rattle.ba_xml_writer.proofs.Resolved.{scope_differ, resolves, few_further, named}
-use Rattle.ba_xml_writer.specs.Namespaces.{Declaration, declaration, numbered, declared, scope, further, is_further, xml_space, soap_space, wsa_space, wscoor_space, wsba_space}
+use Rattle.ba_xml_writer.specs.Namespaces.{Declaration, declaration, numbered, declared, scope, further, is_further, xml_space, soap_space}
+use Rattle.ba_xml_writer.specs.Namespaces.{wsa_space, wscoor_space, wsba_space}
 use Rattle.ba_xml_writer.specs.Resolving.{prefix_of, space_of, prefixes_differ}
 use Rattle.ba_xml_writer.specs.Writable.{IsWritable}
 use Rattle.ba_xml.proofs.Fine.{IsLegal}
@@ -86,7 +88,8 @@ numbered_none : (k : ℕ) (fs : List (List ℕ)) → list_all is_further fs ≡ 
 numbered_none k [] h = refl
 numbered_none k (f ∷ fs) h =
     let hs : (is_further f ≡ true) × (list_all is_further fs ≡ true) = both (is_further f) (list_all is_further fs) h in
-    ap (λ b. if b then Some (codes "n" ++ decimal k) else prefix_of (numbered (k + 1) fs) []) (further_some f hs.0) ∙ numbered_none (k + 1) fs hs.1
+    ap (λ b. if b then Some (codes "n" ++ decimal k) else prefix_of (numbered (k + 1) fs) []) (further_some f hs.0)
+    ∙ numbered_none (k + 1) fs hs.1
 
 -- no prefix stands for no namespace
 none_for_none : (fs : List (List ℕ)) → list_all is_further fs ≡ true → prefix_of (scope fs) [] ≡ None
@@ -94,7 +97,8 @@ unfolding xml_space soap_space wsa_space wscoor_space wsba_space
 none_for_none fs h = numbered_none 1 fs h
 
 lawful_one : (f : List ℕ) → is_further f ≡ true → (not (bytes_eq f []) && not (bytes_eq f xml_space)) ≡ true
-lawful_one f h = by (bytes_eq f []) (bytes_eq f xml_space) (list_any (bytes_eq f) (soap_space ∷ wsa_space ∷ wscoor_space ∷ wsba_space ∷ [])) h
+lawful_one f h = by (bytes_eq f []) (bytes_eq f xml_space)
+    (list_any (bytes_eq f) (soap_space ∷ wsa_space ∷ wscoor_space ∷ wsba_space ∷ [])) h
   where
     by : (a b c : Bool) → not (a || (b || c)) ≡ true → (not a && not b) ≡ true
     by false false c h = refl
@@ -106,7 +110,8 @@ unfolding xml_space
 numbered_lawful k [] h = refl
 numbered_lawful k (f ∷ fs) h =
     let hs : (is_further f ≡ true) × (list_all is_further fs ≡ true) = both (is_further f) (list_all is_further fs) h in
-    joined (is_lawful (as_read (declaration (codes "n" ++ decimal k) f))) (list_all is_lawful (map as_read (numbered (k + 1) fs))) (lawful_one f hs.0) (numbered_lawful (k + 1) fs hs.1)
+    joined (is_lawful (as_read (declaration (codes "n" ++ decimal k) f))) (list_all is_lawful (map as_read (numbered (k + 1) fs)))
+    (lawful_one f hs.0) (numbered_lawful (k + 1) fs hs.1)
 
 pub declared_lawful : (fs : List (List ℕ)) → list_all is_further fs ≡ true → list_all is_lawful (map as_read (declared fs)) ≡ true
 unfolding soap_space wsa_space wscoor_space wsba_space
@@ -143,38 +148,49 @@ not_empty (b ∷ bs) n = refl
 
 bare_in : (own : List Declaration) (rest : List reader.Declaration) → AreGood own → nearest [] (map as_read own ++ rest) ≡ nearest [] rest
 bare_in [] rest g = refl
-bare_in (d ∷ own) rest g = ap (λ b. cond b (Some d.space) (nearest [] (map as_read own ++ rest))) (not_empty d.prefix g.0.0) ∙ bare_in own rest g.1
+bare_in (d ∷ own) rest g = ap (λ b. cond b (Some d.space) (nearest [] (map as_read own ++ rest))) (not_empty d.prefix g.0.0)
+    ∙ bare_in own rest g.1
 
 -- no default namespace is declared
 pub bare_space : (fs : List (List ℕ)) → length fs ≤ 28 → nearest [] (read_scope fs) ≡ Some []
 bare_space fs few = bare_in (declared fs) first_scope (declared_good fs few)
 
-found_in : (own : List Declaration) (rest : List reader.Declaration) (prefix space : List ℕ) → space_of own prefix ≡ Some space → nearest prefix (map as_read own ++ rest) ≡ Some space
+found_in : (own : List Declaration) (rest : List reader.Declaration) (prefix space : List ℕ) → space_of own prefix ≡ Some space
+    → nearest prefix (map as_read own ++ rest) ≡ Some space
 found_in [] rest prefix space h = absurd (cc)
 found_in (d ∷ own) rest prefix space h =
     ap (λ b. cond b (Some d.space) (nearest prefix (map as_read own ++ rest))) (nat_list_eq_equiv.symm d.prefix prefix)
     ∙ by (bytes_eq prefix d.prefix) (found_in own rest prefix space) h
   where
-    by : (b : Bool) → (space_of own prefix ≡ Some space → nearest prefix (map as_read own ++ rest) ≡ Some space) → (if b then Some d.space else space_of own prefix) ≡ Some space
+    by : (b : Bool) → (space_of own prefix ≡ Some space → nearest prefix (map as_read own ++ rest) ≡ Some space)
+        → (if b then Some d.space else space_of own prefix) ≡ Some space
         → cond b (Some d.space) (nearest prefix (map as_read own ++ rest)) ≡ Some space
     by true later h = h
     by false later h = later h
 
-behind_all : (own : List Declaration) (rest : List reader.Declaration) (prefix : List ℕ) → list_any (λ d. bytes_eq prefix d.prefix) own ≡ false → nearest prefix (map as_read own ++ rest) ≡ nearest prefix rest
+behind_all : (own : List Declaration) (rest : List reader.Declaration) (prefix : List ℕ)
+    → list_any (λ d. bytes_eq prefix d.prefix) own ≡ false → nearest prefix (map as_read own ++ rest) ≡ nearest prefix rest
 behind_all [] rest prefix h = refl
 behind_all (d ∷ own) rest prefix h =
-    let hs : (bytes_eq prefix d.prefix ≡ false) × (list_any (λ e. bytes_eq prefix e.prefix) own ≡ false) = or_false (bytes_eq prefix d.prefix) (list_any (λ e. bytes_eq prefix e.prefix) own) h in
-    ap (λ b. cond b (Some d.space) (nearest prefix (map as_read own ++ rest))) (nat_list_eq_equiv.symm d.prefix prefix ∙ hs.0) ∙ behind_all own rest prefix hs.1
+    let hs : (bytes_eq prefix d.prefix ≡ false)
+    × (list_any (λ e. bytes_eq prefix e.prefix) own ≡ false) =
+    or_false (bytes_eq prefix d.prefix) (list_any (λ e. bytes_eq prefix e.prefix) own) h in
+    ap (λ b. cond b (Some d.space) (nearest prefix (map as_read own ++ rest))) (nat_list_eq_equiv.symm d.prefix prefix ∙ hs.0)
+    ∙ behind_all own rest prefix hs.1
 
-found : (fs : List (List ℕ)) (prefix space : List ℕ) → prefixes_differ (scope fs) ≡ true → space_of (scope fs) prefix ≡ Some space → nearest prefix (read_scope fs) ≡ Some space
+found : (fs : List (List ℕ)) (prefix space : List ℕ) → prefixes_differ (scope fs) ≡ true → space_of (scope fs) prefix ≡ Some space
+    → nearest prefix (read_scope fs) ≡ Some space
 unfolding xml_space
 found fs prefix space d h = by (bytes_eq prefix (codes "xml")) refl h
   where
     undeclared : list_any (λ e. bytes_eq (codes "xml") e.prefix) (declared fs) ≡ false
-    undeclared = not_true (list_any (λ e. bytes_eq (codes "xml") e.prefix) (declared fs)) (both (not (list_any (λ e. bytes_eq (codes "xml") e.prefix) (declared fs))) (prefixes_differ (declared fs)) d).0
+    undeclared = not_true (list_any (λ e. bytes_eq (codes "xml") e.prefix) (declared fs))
+        (both (not (list_any (λ e. bytes_eq (codes "xml") e.prefix) (declared fs))) (prefixes_differ (declared fs)) d).0
 
-    by : (b : Bool) → bytes_eq prefix (codes "xml") ≡ b → (if b then Some xml_space else space_of (declared fs) prefix) ≡ Some space → nearest prefix (read_scope fs) ≡ Some space
-    by true e h = ap (λ p. nearest p (read_scope fs)) ((bytes_eq-Decides prefix (codes "xml")).0 e) ∙ behind_all (declared fs) first_scope (codes "xml") undeclared ∙ h
+    by : (b : Bool) → bytes_eq prefix (codes "xml") ≡ b → (if b then Some xml_space else space_of (declared fs) prefix) ≡ Some space
+        → nearest prefix (read_scope fs) ≡ Some space
+    by true e h = ap (λ p. nearest p (read_scope fs)) ((bytes_eq-Decides prefix (codes "xml")).0 e)
+        ∙ behind_all (declared fs) first_scope (codes "xml") undeclared ∙ h
     by false e h = found_in (declared fs) first_scope prefix space h
 
 -- ---- the further namespaces of a tree
@@ -202,7 +218,8 @@ all_firsts p (x ∷ xs) h =
     joined (p x) (list_all p (without x (firsts xs))) hs.0 (all_without p x (firsts xs) (all_firsts p xs hs.1))
 
 pub further_legal : (t : Tree) → list_all is_legal_text (spaces_named t) ≡ true → list_all is_legal_text (further t) ≡ true
-further_legal t h = all_filtered is_legal_text is_further (without [] (firsts (spaces_named t))) (all_without is_legal_text [] (firsts (spaces_named t)) (all_firsts is_legal_text (spaces_named t) h))
+further_legal t h = all_filtered is_legal_text is_further (without [] (firsts (spaces_named t)))
+    (all_without is_legal_text [] (firsts (spaces_named t)) (all_firsts is_legal_text (spaces_named t) h))
 
 all_chosen : (f : List ℕ → Bool) (xs : List (List ℕ)) → list_all f (filter f xs) ≡ true
 all_chosen f [] = refl
@@ -216,14 +233,19 @@ pub further_all : (t : Tree) → list_all is_further (further t) ≡ true
 further_all t = all_chosen is_further (without [] (firsts (spaces_named t)))
 
 -- the prefix that is written for a namespace that the tree names means it
-pub explained : (t : Tree) → IsWritable t → (space : List ℕ) → list_any (bytes_eq space) (spaces_named t) ≡ true → nearest (or_none (prefix_of (scope (further t)) space)) (read_scope (further t)) ≡ Some space
+pub explained : (t : Tree) → IsWritable t → (space : List ℕ) → list_any (bytes_eq space) (spaces_named t) ≡ true
+    → nearest (or_none (prefix_of (scope (further t)) space)) (read_scope (further t)) ≡ Some space
 explained t w space h = by (bytes_eq space []) refl
   where
-    prefixed : (o : Option (List ℕ)) → prefix_of (scope (further t)) space ≡ o → IsSome o → nearest (or_none o) (read_scope (further t)) ≡ Some space
+    prefixed : (o : Option (List ℕ)) → prefix_of (scope (further t)) space ≡ o → IsSome o
+        → nearest (or_none o) (read_scope (further t)) ≡ Some space
     prefixed None e i = absurd (cc)
-    prefixed (Some prefix) e i = found (further t) prefix space (scope_differ (further t) (few_further t w)) (resolves (further t) space prefix (few_further t w) e)
+    prefixed (Some prefix) e i = found (further t) prefix space (scope_differ (further t) (few_further t w))
+        (resolves (further t) space prefix (few_further t w) e)
 
     by : (b : Bool) → bytes_eq space [] ≡ b → nearest (or_none (prefix_of (scope (further t)) space)) (read_scope (further t)) ≡ Some space
-    by true e = subst (λ s. nearest (or_none (prefix_of (scope (further t)) s)) (read_scope (further t)) ≡ Some s) (sym ((bytes_eq-Decides space []).0 e))
-        (ap (λ o. nearest (or_none o) (read_scope (further t))) (none_for_none (further t) (further_all t)) ∙ bare_space (further t) (few_further t w))
+    by true e = subst (λ s. nearest (or_none (prefix_of (scope (further t)) s)) (read_scope (further t)) ≡ Some s)
+        (sym ((bytes_eq-Decides space []).0 e))
+        (ap (λ o. nearest (or_none o) (read_scope (further t))) (none_for_none (further t) (further_all t))
+        ∙ bare_space (further t) (few_further t w))
     by false e = prefixed (prefix_of (scope (further t)) space) refl (named t space e h)

@@ -1,5 +1,6 @@
 -- Texts of legal characters, byte by byte.
-use Rattle.std.proofs.Common.{◌≡◌, ℕ, ◌≤◌, Bool, true, false, not, ◌||◌, ◌==◌, nat_lt, List, [], ◌∷◌, ◌++◌, length, encode_utf8_all, refl, sym, subst, arith, true≢false}
+use Rattle.std.proofs.Common.{◌≡◌, ℕ, ◌≤◌, Bool, true, false, not, ◌||◌, ◌==◌, nat_lt, List, [], ◌∷◌, ◌++◌, length, encode_utf8_all, refl}
+use Rattle.std.proofs.Common.{sym, subst, arith, true≢false}
 use Rattle.std.proofs.lemmas.Bool.{ltb-true, ltb-false}
 use Rattle.std.proofs.lemmas.Bool.Decides.{nat_tests}
 use Rattle.std.proofs.lemmas.Str.{IsUtf8-from_is_utf8, encodes-chars}
@@ -40,8 +41,14 @@ high_bytes c h = by (nat_lt c 0x800) (nat_lt c 0x10000) refl refl
   where
     by : (x y : Bool) → nat_lt c 0x800 ≡ x → nat_lt c 0x10000 ≡ y → IsHigh (encode_utf8 c)
     by true y p q = subst IsHigh (sym (encoded_two c h (ltb-true c 0x800 p))) (omega arith, (omega arith, tt))
-    by false true p q = subst IsHigh (sym (encoded_three c (ltb-false c 0x800 p) (ltb-true c 0x10000 q))) (omega arith, (omega arith, (omega arith, tt)))
-    by false false p q = subst IsHigh (sym (encoded_four c (ltb-false c 0x10000 q))) (omega arith, (omega arith, (omega arith, (omega arith, tt))))
+    by false true p q = subst IsHigh (sym (encoded_three c (ltb-false c 0x800 p) (ltb-true c 0x10000 q))) (
+      omega arith,
+      (omega arith, (omega arith, tt)),
+    )
+    by false false p q = subst IsHigh (sym (encoded_four c (ltb-false c 0x10000 q))) (
+      omega arith,
+      (omega arith, (omega arith, (omega arith, tt))),
+    )
 
 -- a byte of a legal text: a carriage return, or what may stand in a text
 abbrev pub is_text_byte : ℕ → Bool

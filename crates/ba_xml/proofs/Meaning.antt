@@ -1,5 +1,6 @@
 -- The pieces of a tree's content mean that content, and each prefix is declared.
-use Rattle.std.proofs.Common.{◌≡◌, ℕ, ◌+◌, Bool, true, false, ◌&&◌, Some, List, [], ◌∷◌, ◌++◌, nat_eq, refl, sym, ap, ◌∙◌, subst, append-nil, true≢false}
+use Rattle.std.proofs.Common.{◌≡◌, ℕ, ◌+◌, Bool, true, false, ◌&&◌, Some, List, [], ◌∷◌, ◌++◌, nat_eq, refl, sym, ap, ◌∙◌, subst}
+use Rattle.std.proofs.Common.{append-nil, true≢false}
 use Rattle.std.proofs.lemmas.Bool.{eqb-true}
 use Rattle.std.specs.Char.{encode_utf8}
 use Rattle.ba_tree.specs.declared.trees.Content.{Content, Text, Child, Child', Row_of-Content, end_of-Content, more_of-Content}
@@ -15,7 +16,8 @@ use Rattle.ba_xml_writer.specs.Resolving.{prefix_of}
 use Rattle.ba_xml.proofs.Fine.{is_text, starts_text, IsFine, IsFineRow}
 use Rattle.ba_xml.proofs.FineTrees.{child_shown}
 use Rattle.ba_xml.proofs.Prefixes.{IsGood}
-use Rattle.ba_xml.proofs.Spelling.{itself, referred, text_spelling, in_text, one_piece, text_pieces, start, element_pieces, item_pieces, row_pieces}
+use Rattle.ba_xml.proofs.Spelling.{itself, referred, text_spelling, in_text, one_piece, text_pieces, start, element_pieces, item_pieces}
+use Rattle.ba_xml.proofs.Spelling.{row_pieces}
 use Rattle.ba_xml.proofs.Starts.{start_meant}
 use mathlib.Core.Former.{Count, list_count, this}
 
@@ -63,7 +65,8 @@ text_resolves scope [] p r = r
 text_resolves scope (b ∷ bs) p r = byte_resolves scope b (text_pieces bs p) (text_resolves scope bs p r)
 
 -- a text, where no other text follows
-text_means : (scope : List reader.Declaration) (t : List ℕ) (p : Pieces) → Begun t → leading p ≡ [] → meaning scope (text_pieces t p) ≡ Text t ∷ meaning scope p
+text_means : (scope : List reader.Declaration) (t : List ℕ) (p : Pieces) → Begun t → leading p ≡ []
+    → meaning scope (text_pieces t p) ≡ Text t ∷ meaning scope p
 text_means scope t p b e =
     (λ i. if_some (text_leads t p i) ++ text_follows scope t p i)
     ∙ ap (λ l. if_some (t ++ l) ++ following scope p) e
@@ -85,19 +88,31 @@ module _ (scope : List reader.Declaration) (s : Start) (o : Opening) (e : openin
   is_meant : meant scope s ≡ o
   is_meant = ap or_nothing e
 
-  pub element_follows : (none : Bool) (inside p : Pieces) (content : List Content) → (none ≡ true → content ≡ []) → meaning (o.declarations ++ scope) inside ≡ content
-      → following scope (element_pieces s none inside p) ≡ Child (record { name = o.name; attributes = o.attributes; content = content }) ∷ meaning scope p
+  pub element_follows : (none : Bool) (inside p : Pieces) (content : List Content) → (none ≡ true → content ≡ [])
+      → meaning (o.declarations ++ scope) inside ≡ content
+      → following scope (element_pieces s none inside p) ≡ Child (record { name = o.name; attributes = o.attributes; content = content })
+      ∷ meaning scope p
   element_follows true inside p content n m =
       (λ i. Child (record { name = (is_meant i).name; attributes = (is_meant i).attributes; content = sym (n refl) i }) ∷ meaning scope p)
   element_follows false inside p content n m =
-      (λ i. Child (record { name = (is_meant i).name; attributes = (is_meant i).attributes; content = meaning ((is_meant i).declarations ++ scope) inside }) ∷ meaning scope p)
+      (λ i. Child (record {
+        name = (is_meant i).name;
+        attributes = (is_meant i).attributes;
+        content =
+            meaning ((is_meant i).declarations ++ scope) inside;
+      }) ∷ meaning scope p)
       ∙ ap (λ cs. Child (record { name = o.name; attributes = o.attributes; content = cs }) ∷ meaning scope p) m
 
-  pub element_means : (none : Bool) (inside p : Pieces) (content : List Content) → (none ≡ true → content ≡ []) → meaning (o.declarations ++ scope) inside ≡ content
-      → meaning scope (element_pieces s none inside p) ≡ Child (record { name = o.name; attributes = o.attributes; content = content }) ∷ meaning scope p
-  element_means none inside p content n m = ap (λ l. if_some l ++ following scope (element_pieces s none inside p)) (element_leads s none inside p) ∙ element_follows none inside p content n m
+  pub element_means : (none : Bool) (inside p : Pieces) (content : List Content) → (none ≡ true → content ≡ [])
+      → meaning (o.declarations ++ scope) inside ≡ content
+      → meaning scope (element_pieces s none inside p) ≡ Child (record { name = o.name; attributes = o.attributes; content = content })
+      ∷ meaning scope p
+  element_means none inside p content n m =
+      ap (λ l. if_some l ++ following scope (element_pieces s none inside p)) (element_leads s none inside p)
+      ∙ element_follows none inside p content n m
 
-  pub element_resolves : (none : Bool) (inside p : Pieces) → Resolves (o.declarations ++ scope) inside → Resolves scope p → Resolves scope (element_pieces s none inside p)
+  pub element_resolves : (none : Bool) (inside p : Pieces) → Resolves (o.declarations ++ scope) inside → Resolves scope p
+      → Resolves scope (element_pieces s none inside p)
   element_resolves true inside p i r = ((o, e), r)
   element_resolves false inside p i r = ((o, e), subst (λ x. Resolves (x.declarations ++ scope) inside) (sym is_meant) i, r)
 
@@ -107,22 +122,28 @@ pub empty_row : {m : Count} (row : Row_of-Content m) → is_end row ≡ true →
 empty_row end_of-Content h = refl
 empty_row (more_of-Content c row) h = absurd (true≢false (sym h))
 
-module _ (ds : List Declaration) (read : List reader.Declaration) (good : (space : List ℕ) → IsGood (prefix_of ds space)) (bare : nearest [] read ≡ Some []) where
+module _ (ds : List Declaration) (read : List reader.Declaration) (good : (space : List ℕ)
+    → IsGood (prefix_of ds space)) (bare : nearest [] read ≡ Some []) where
   no_text_first : {m : Count} (row : Row_of-Content m) → starts_text row ≡ false → leading (row_pieces ds row nothing) ≡ []
   no_text_first end_of-Content h = refl
   no_text_first (more_of-Content (Text t) row) h = absurd (true≢false h)
-  no_text_first (more_of-Content (Child' name atts shape inner) row) h = element_leads (start ds [] name atts) (is_end inner) (row_pieces ds inner nothing) (row_pieces ds row nothing)
+  no_text_first (more_of-Content (Child' name atts shape inner) row) h =
+      element_leads (start ds [] name atts) (is_end inner) (row_pieces ds inner nothing) (row_pieces ds row nothing)
 
   mutual
-    item_means : (level : ℕ) (c : Content) (p : Pieces) → IsFine ds read level c → (is_text c ≡ true → leading p ≡ []) → meaning read (item_pieces ds c p) ≡ c ∷ meaning read p
+    item_means : (level : ℕ) (c : Content) (p : Pieces) → IsFine ds read level c → (is_text c ≡ true → leading p ≡ [])
+        → meaning read (item_pieces ds c p) ≡ c ∷ meaning read p
     item_means level (Text t) p f n = text_means read t p f.0 (n refl)
     item_means level (Child' name atts shape row) p f n =
-        element_means read (start ds [] name atts) (opened name [] atts) (start_meant ds read good bare [] read name atts refl refl f.0) (is_end row) (row_pieces ds row nothing) p
+        element_means read (start ds [] name atts) (opened name [] atts) (start_meant ds read good bare [] read name atts refl refl f.0)
+        (is_end row) (row_pieces ds row nothing) p
         (items-the_row-Content (list_count (this {0}) shape 0) row) (empty_row row) (row_means (level + 1) row f.3)
-        ∙ ap (λ cs. Child (record { name = name; attributes = atts; content = cs }) ∷ meaning read p) (sym (items_shown-the_row-Content-0 shape row))
+        ∙ ap (λ cs. Child (record { name = name; attributes = atts; content = cs }) ∷ meaning read p)
+        (sym (items_shown-the_row-Content-0 shape row))
         ∙ ap (λ c. c ∷ meaning read p) (child_shown name atts shape row)
 
-    pub row_means : {m : Count} (level : ℕ) (row : Row_of-Content m) → IsFineRow ds read level row → meaning read (row_pieces ds row nothing) ≡ items-the_row-Content m row
+    pub row_means : {m : Count} (level : ℕ) (row : Row_of-Content m) → IsFineRow ds read level row
+        → meaning read (row_pieces ds row nothing) ≡ items-the_row-Content m row
     row_means level end_of-Content f = refl
     row_means level (more_of-Content c row) f =
         item_means level c (row_pieces ds row nothing) f.0 (λ e. no_text_first row (ap (λ b. b && starts_text row) (sym e) ∙ f.1))
@@ -135,6 +156,7 @@ module _ (ds : List Declaration) (read : List reader.Declaration) (good : (space
         element_resolves read (start ds [] name atts) (opened name [] atts) (start_meant ds read good bare [] read name atts refl refl f.0)
         (is_end row) (row_pieces ds row nothing) p (row_resolves (level + 1) row f.3) r
 
-    pub row_resolves : {m : Count} (level : ℕ) (row : Row_of-Content m) → IsFineRow ds read level row → Resolves read (row_pieces ds row nothing)
+    pub row_resolves : {m : Count} (level : ℕ) (row : Row_of-Content m) → IsFineRow ds read level row
+        → Resolves read (row_pieces ds row nothing)
     row_resolves level end_of-Content f = tt
     row_resolves level (more_of-Content c row) f = item_resolves level c (row_pieces ds row nothing) f.0 (row_resolves level row f.2)

@@ -1,5 +1,6 @@
 -- Runs of the machine over a piece that is taken in parts: for the loop of `read_piece`.
-use Rattle.std.proofs.Common.{◌≡◌, ℕ, ◌+◌, ◌-◌, ◌<◌, ◌≤◌, Bool, true, false, cond, nat_lt, List, [], ◌∷◌, length, take, drop, refl, ap, sym, subst}
+use Rattle.std.proofs.Common.{◌≡◌, ℕ, ◌+◌, ◌-◌, ◌<◌, ◌≤◌, Bool, true, false, cond, nat_lt, List, [], ◌∷◌, length, take, drop, refl, ap, sym}
+use Rattle.std.proofs.Common.{subst}
 use Rattle.std.proofs.Common.{◌∙◌, arith}
 use Rattle.std.proofs.lemmas.Bool.{ltb-true}
 use Rattle.std.proofs.lemmas.List.{drop_all, drop-drop, length-take-le, take-append-drop}
@@ -29,7 +30,8 @@ in_parts scan taken at count r bs e =
     ∙ ap (λ ds. run r ds) (drop-drop count at bs)
 
 -- the loop's step over so many bytes
-pub goes_on : (scan next : Scan) (taken more at count : ℕ) (r : Reading) (bs : List ℕ) → run (Going scan taken) (take count (from at bs)) ≡ r
+pub goes_on : (scan next : Scan) (taken more at count : ℕ) (r : Reading) (bs : List ℕ)
+    → run (Going scan taken) (take count (from at bs)) ≡ r
     → r ≡ Going next more → run (Going next more) (drop (at + count) bs) ≡ run (Going scan taken) (drop at bs)
 goes_on scan next taken more at count r bs e is =
     ap (λ x. run x (drop (at + count) bs)) (sym is) ∙ sym (in_parts scan taken at count r bs e)

@@ -31,7 +31,8 @@ AreDeclarable (d ∷ own) = IsDeclarable d × AreDeclarable own
 pub names_total : IsTotalOrder name_cmp
 names_total = then_total (on_total (λ (n : Name). n.space) nat_list_cmp_total) (on_total (λ (n : Name). n.local) nat_list_cmp_total)
 
-pub names_differ : (ds : List Declaration) (read : List reader.Declaration) (a b : Name) → IsExplained ds read a.space → IsExplained ds read b.space
+pub names_differ : (ds : List Declaration) (read : List reader.Declaration) (a b : Name) → IsExplained ds read a.space
+    → IsExplained ds read b.space
     → name_cmp a b ≡ order.Less → raw ds b ≡ raw ds a → ⊥
 names_differ ds read a b x y less e = clash (sym less ∙ same ∙ tied_itself names_total a)
   where

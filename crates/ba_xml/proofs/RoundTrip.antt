@@ -3,7 +3,8 @@ use Rattle.std.proofs.Common.{◌≡◌, ℕ, ◌+◌, ◌≤◌, Bool, true, fa
 use Rattle.ba_tree.specs.declared.trees.Tree.{Tree}
 use Rattle.ba_tree.specs.declared.trees.Content.{Child, Row_of-Content}
 use Rattle.ba_tree.specs.declared.trees.Content.TheBlock.{hidden-the_row-Content-0, items_hidden-the_row-Content-0, shape-the_row-Content-0}
-use Rattle.ba_xml_grammar.specs.Grammar.{Start, Pieces, nothing, Document, misc_end, no_head, written, tag, meaning, IsRoot, Allowed, Resolves, Small}
+use Rattle.ba_xml_grammar.specs.Grammar.{Start, Pieces, nothing, Document, misc_end, no_head, written, tag, meaning, IsRoot, Allowed}
+use Rattle.ba_xml_grammar.specs.Grammar.{Resolves, Small}
 use Rattle.ba_xml_grammar.specs.GrammarTexts.{IsXmlText}
 use Rattle.ba_xml_names.specs.Namespaces.{first_scope, opened, opening}
 use Rattle.ba_xml_names.specs.declared.levels.Declaration as reader
@@ -75,20 +76,24 @@ module _ (t : Tree) (w : IsWritable t) where
       []
 
   root_written : written root [] ≡ one_text t
-  root_written = element_written ds good own t.name t.attributes (is_end content) inside (λ more. row_items ds content more) nothing [] (λ more. row_written ds good content nothing more) ∙ text_is
+  root_written = element_written ds good own t.name t.attributes (is_end content) inside (λ more. row_items ds content more) nothing []
+      (λ more. row_written ds good content nothing more) ∙ text_is
 
   clean : IsClean (one_text t)
   clean = subst IsClean text_is
-      (clean_element ds read good own t.name t.attributes (is_end content) (λ more. row_items ds content more) [] declarable fine.0 (λ more m. clean_row ds read good 2 content more fine.3 m) clean_end)
+      (clean_element ds read good own t.name t.attributes (is_end content) (λ more. row_items ds content more) [] declarable fine.0
+      (λ more m. clean_row ds read good 2 content more fine.3 m) clean_end)
 
   -- ---- where it stands
 
   root_allowed : Allowed root
   root_allowed =
-      element_allowed ds read good own t.name t.attributes (is_end content) inside nothing declarable (both _ _ (scope_differ (further t) few)).1 fine.0 (row_allowed ds read good 2 content fine.3).0 tt
+      element_allowed ds read good own t.name t.attributes (is_end content) inside nothing declarable
+      (both _ _ (scope_differ (further t) few)).1 fine.0 (row_allowed ds read good 2 content fine.3).0 tt
 
   root_small : Small 1 root
-  root_small = element_small 1 tags (is_end content) inside nothing (omega arith) (few_pairs ds own t.name t.attributes room) (row_small ds read 2 content fine.3) tt
+  root_small = element_small 1 tags (is_end content) inside nothing (omega arith) (few_pairs ds own t.name t.attributes room)
+      (row_small ds read 2 content fine.3) tt
     where
       room : length own + length t.attributes ≤ 32
       room = let fits : HasRoom t = w.room in omega arith
@@ -96,7 +101,8 @@ module _ (t : Tree) (w : IsWritable t) where
   -- ---- what it means
 
   opens : opening first_scope (tag tags) ≡ Some (opened t.name (map as_read own) t.attributes)
-  opens = start_meant ds read good (bare_space (further t) few) own first_scope t.name t.attributes refl (declared_lawful (further t) (further_all t)) fine.0
+  opens = start_meant ds read good (bare_space (further t) few) own first_scope t.name t.attributes refl
+      (declared_lawful (further t) (further_all t)) fine.0
 
   root_means : meaning first_scope root ≡ Child t ∷ []
   root_means =
@@ -118,7 +124,11 @@ module _ (t : Tree) (w : IsWritable t) where
   unfolding document
   round_trip = (
     document,
-    (clean_characters (one_text t) clean, (tt, tt, one_root tags (is_end content) inside, root_allowed, tt), clean_lines (one_text t) clean ∙ sym root_written),
+    (
+      clean_characters (one_text t) clean,
+      (tt, tt, one_root tags (is_end content) inside, root_allowed, tt),
+      clean_lines (one_text t) clean ∙ sym root_written,
+    ),
     (w.short, root_small),
     (root_resolves, root_means),
   )

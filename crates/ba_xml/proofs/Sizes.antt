@@ -8,7 +8,8 @@ use Rattle.ba_xml_names.specs.declared.levels.Declaration as reader
 use Rattle.ba_xml_writer.specs.Namespaces.{Declaration}
 use Rattle.ba_xml_writer.specs.OneText.{is_end}
 use Rattle.ba_xml.proofs.Fine.{IsFine, IsFineRow}
-use Rattle.ba_xml.proofs.Spelling.{itself, referred, in_text, one_piece, text_pieces, attribute_pairs, declared_pairs, start, element_pieces, item_pieces, row_pieces}
+use Rattle.ba_xml.proofs.Spelling.{itself, referred, in_text, one_piece, text_pieces, attribute_pairs, declared_pairs, start}
+use Rattle.ba_xml.proofs.Spelling.{element_pieces, item_pieces, row_pieces}
 
 byte_small : (level b : ℕ) (p : Pieces) → Small level p → Small level (one_piece (in_text b) b p)
 byte_small level b p s = by (in_text b)
@@ -29,13 +30,16 @@ pairs_count : (own : List Declaration) (others : List Pair) → length (declared
 pairs_count [] others = omega arith
 pairs_count (d ∷ own) others = let rest = pairs_count own others in omega arith
 
-pub few_pairs : (ds own : List Declaration) (name : Name) (atts : List Attribute) → length own + length atts ≤ 32 → length (start ds own name atts).pairs ≤ 32
+pub few_pairs : (ds own : List Declaration) (name : Name) (atts : List Attribute) → length own + length atts ≤ 32
+    → length (start ds own name atts).pairs ≤ 32
 few_pairs ds own name atts h =
-    let all : length (declared_pairs own (attribute_pairs ds atts)) ≡ length own + length (attribute_pairs ds atts) = pairs_count own (attribute_pairs ds atts) in
+    let all : length (declared_pairs own (attribute_pairs ds atts)) ≡ length own + length (attribute_pairs ds atts) =
+    pairs_count own (attribute_pairs ds atts) in
     let plain : length (attribute_pairs ds atts) ≡ length atts = attributes_count ds atts in
     omega arith
 
-pub element_small : (level : ℕ) (s : Start) (none : Bool) (inside p : Pieces) → level ≤ 32 → length s.pairs ≤ 32 → Small (level + 1) inside → Small level p → Small level (element_pieces s none inside p)
+pub element_small : (level : ℕ) (s : Start) (none : Bool) (inside p : Pieces) → level ≤ 32 → length s.pairs ≤ 32 → Small (level + 1) inside
+    → Small level p → Small level (element_pieces s none inside p)
 element_small level s true inside p l n i r = (l, n, r)
 element_small level s false inside p l n i r = (l, n, i, r)
 
@@ -44,7 +48,8 @@ module _ (ds : List Declaration) (read : List reader.Declaration) where
     item_small : (level : ℕ) (c : Content) (p : Pieces) → IsFine ds read level c → Small level p → Small level (item_pieces ds c p)
     item_small level (Text t) p f r = text_small level t p r
     item_small level (Child' name atts shape row) p f r =
-        element_small level (start ds [] name atts) (is_end row) (row_pieces ds row nothing) p f.1 (few_pairs ds [] name atts (none (length atts) f.2)) (row_small (level + 1) row f.3) r
+        element_small level (start ds [] name atts) (is_end row) (row_pieces ds row nothing) p f.1
+        (few_pairs ds [] name atts (none (length atts) f.2)) (row_small (level + 1) row f.3) r
       where
         none : (n : ℕ) → n ≤ 32 → 0 + n ≤ 32
         none n h = omega arith

@@ -3,7 +3,8 @@ use Rattle.std.proofs.Common.{ℕ, Bool, true, false, Option, Some, None, List, 
 use Rattle.ba_tree.specs.declared.trees.Name.{Name}
 use Rattle.ba_tree.specs.declared.trees.Attribute.{Attribute}
 use Rattle.ba_tree.specs.declared.trees.Content.{Content, Text, Child', Row_of-Content, end_of-Content, more_of-Content}
-use Rattle.ba_xml_grammar.specs.Grammar.{Value, value_end, value_character, value_reference, Pair, Start, Pieces, nothing, character, reference, empty, element}
+use Rattle.ba_xml_grammar.specs.Grammar.{Value, value_end, value_character, value_reference, Pair, Start, Pieces, nothing, character}
+use Rattle.ba_xml_grammar.specs.Grammar.{reference, empty, element}
 use Rattle.ba_xml_grammar.specs.GrammarWords.{Reference, less, greater, ampersand, quotation, decimal}
 use Rattle.ba_xml_words.specs.declared.names.RawName.{RawName}
 use Rattle.ba_xml_writer.specs.Namespaces.{Declaration}
@@ -42,11 +43,13 @@ in_value b = value_spelling (nat_eq b 38) (nat_eq b 60) (nat_eq b 62) (nat_eq b 
 
 -- the same as the writer has it: the bytes, and then others
 abbrev pub text_spelled : Bool → Bool → Bool → Bool → ℕ → List ℕ → List ℕ
-text_spelled a l g r b rest = if a then codes "&amp;" ++ rest else (if l then codes "&lt;" ++ rest else (if g then codes "&gt;" ++ rest else (if r then codes "&#13;" ++ rest else b ∷ rest)))
+text_spelled a l g r b rest = if a then codes "&amp;"
+    ++ rest else (if l then codes "&lt;" ++ rest else (if g then codes "&gt;" ++ rest else (if r then codes "&#13;" ++ rest else b ∷ rest)))
 
 abbrev pub value_spelled : Bool → Bool → Bool → Bool → Bool → Bool → Bool → ℕ → List ℕ → List ℕ
 value_spelled a l g r q t f b rest =
-    if a then codes "&amp;" ++ rest else (if l then codes "&lt;" ++ rest else (if g then codes "&gt;" ++ rest else (if r then codes "&#13;" ++ rest else
+    if a then codes "&amp;" ++ rest else (if l then codes "&lt;"
+    ++ rest else (if g then codes "&gt;" ++ rest else (if r then codes "&#13;" ++ rest else
     (if q then codes "&quot;" ++ rest else (if t then codes "&#9;" ++ rest else (if f then codes "&#10;" ++ rest else b ∷ rest))))))
 
 abbrev pub one_piece : Spelling → ℕ → Pieces → Pieces

@@ -1,6 +1,7 @@
 -- What the start tags of the one text mean.
 use Rattle.ba_tree.specs.Trees.{name_cmp}
-use Rattle.std.proofs.Common.{◌≡◌, ℕ, Bool, true, false, cond, ◌&&◌, ◌||◌, ◌==◌, Option, Some, None, List, [], ◌∷◌, ◌++◌, map, nat_eq, codes, refl, sym, ap, ◌∙◌, append_assoc, append-nil}
+use Rattle.std.proofs.Common.{◌≡◌, ℕ, Bool, true, false, cond, ◌&&◌, ◌||◌, ◌==◌, Option, Some, None, List, [], ◌∷◌, ◌++◌, map, nat_eq}
+use Rattle.std.proofs.Common.{codes, refl, sym, ap, ◌∙◌, append_assoc, append-nil}
 use Rattle.std.proofs.lemmas.Bool.{eqb-true}
 use Rattle.std.proofs.lemmas.Slice.Eq.{bytes_eq-Decides}
 use Rattle.std.specs.Char.{encode_utf8}
@@ -13,21 +14,25 @@ use Rattle.ba_tree.specs.declared.trees.Name.{Name}
 use Rattle.ba_tree.specs.declared.trees.Attribute.{Attribute}
 use Rattle.ba_xml_names.proofs.Openings.{lawful}
 use Rattle.ba_xml_grammar.specs.Grammar.{Pair, value_of, attribute, tag}
-use Rattle.ba_xml_names.specs.Namespaces.{is_declaration, declaration_of, declarations, is_lawful, nearest, named, element_name, attribute_name, attribute_of, valued, placed, placed_by, put_one, put_in_order, opened, opening_in, opening}
+use Rattle.ba_xml_names.specs.Namespaces.{is_declaration, declaration_of, declarations, is_lawful, nearest, named, element_name}
+use Rattle.ba_xml_names.specs.Namespaces.{attribute_name, attribute_of, valued, placed, placed_by, put_one, put_in_order, opened}
+use Rattle.ba_xml_names.specs.Namespaces.{opening_in, opening}
 use Rattle.ba_xml_names.specs.declared.levels.Declaration as reader
 use Rattle.ba_xml_words.specs.declared.names.RawAttribute.{RawAttribute}
 use Rattle.ba_xml_writer.specs.Namespaces.{Declaration}
 use Rattle.ba_xml_writer.specs.Resolving.{prefix_of}
 use Rattle.ba_xml.proofs.Fine.{IsFineName, IsFineAttribute, AreFine, IsBefore, Rise, IsFineTag}
 use Rattle.ba_xml.proofs.Prefixes.{IsGood, names_total}
-use Rattle.ba_xml.proofs.Spelling.{value_spelling, in_value, one_value, value_pieces, or_none, raw, pair, attribute_pairs, declared_pairs, start}
+use Rattle.ba_xml.proofs.Spelling.{value_spelling, in_value, one_value, value_pieces, or_none, raw, pair, attribute_pairs, declared_pairs}
+use Rattle.ba_xml.proofs.Spelling.{start}
 use Rattle.ba_xml.proofs.Conditions.{second_false}
 
 -- ---- values
 
 value_byte_meant : (b : ℕ) (bs : List ℕ) → value_of (one_value (in_value b) b (value_pieces bs)) ≡ b ∷ value_of (value_pieces bs)
 unfolding encode_utf8
-value_byte_meant b bs = by (nat_eq b 38) (nat_eq b 60) (nat_eq b 62) (nat_eq b 13) (nat_eq b 34) (nat_eq b 9) (nat_eq b 10) refl refl refl refl refl refl refl
+value_byte_meant b bs = by (nat_eq b 38) (nat_eq b 60) (nat_eq b 62) (nat_eq b 13) (nat_eq b 34) (nat_eq b 9) (nat_eq b 10) refl refl refl
+    refl refl refl refl
   where
     put : (n : ℕ) → nat_eq b n ≡ true → n ∷ value_of (value_pieces bs) ≡ b ∷ value_of (value_pieces bs)
     put n e = ap (λ x. x ∷ value_of (value_pieces bs)) (sym (eqb-true b n e))
@@ -36,7 +41,8 @@ value_byte_meant b bs = by (nat_eq b 38) (nat_eq b 60) (nat_eq b 62) (nat_eq b 1
     plain true e f g = sym (eqb-true b 32 e)
     plain false e f g = ap (λ x. cond (x || b == 10) 32 b) f ∙ ap (λ x. cond x 32 b) g
 
-    by : (a l g r q t f : Bool) → nat_eq b 38 ≡ a → nat_eq b 60 ≡ l → nat_eq b 62 ≡ g → nat_eq b 13 ≡ r → nat_eq b 34 ≡ q → nat_eq b 9 ≡ t → nat_eq b 10 ≡ f
+    by : (a l g r q t f : Bool) → nat_eq b 38 ≡ a → nat_eq b 60 ≡ l → nat_eq b 62 ≡ g → nat_eq b 13 ≡ r → nat_eq b 34 ≡ q → nat_eq b 9 ≡ t
+        → nat_eq b 10 ≡ f
         → value_of (one_value (value_spelling a l g r q t f) b (value_pieces bs))
         ≡ b ∷ value_of (value_pieces bs)
     by true l g r q t f x1 x2 x3 x4 x5 x6 x7 = put 38 x1
@@ -46,7 +52,8 @@ value_byte_meant b bs = by (nat_eq b 38) (nat_eq b 60) (nat_eq b 62) (nat_eq b 1
     by false false false false true t f x1 x2 x3 x4 x5 x6 x7 = put 34 x5
     by false false false false false true f x1 x2 x3 x4 x5 x6 x7 = put 9 x6
     by false false false false false false true x1 x2 x3 x4 x5 x6 x7 = put 10 x7
-    by false false false false false false false x1 x2 x3 x4 x5 x6 x7 = ap (λ x. x ∷ value_of (value_pieces bs)) (plain (b == 32) refl x6 x7)
+    by false false false false false false false x1 x2 x3 x4 x5 x6 x7 =
+        ap (λ x. x ∷ value_of (value_pieces bs)) (plain (b == 32) refl x6 x7)
 
 value_meant : (value : List ℕ) → value_of (value_pieces value) ≡ value
 value_meant [] = refl
@@ -58,7 +65,8 @@ value_meant (b ∷ bs) = value_byte_meant b bs ∙ ap (λ l. b ∷ l) (value_mea
 abbrev pub as_read : Declaration → reader.Declaration
 as_read d = record { prefix = d.prefix; space = d.space }
 
-all_declared : (own : List Declaration) (others : List Pair) → declarations (map attribute (declared_pairs own others)) ≡ map as_read own ++ declarations (map attribute others)
+all_declared : (own : List Declaration) (others : List Pair)
+    → declarations (map attribute (declared_pairs own others)) ≡ map as_read own ++ declarations (map attribute others)
 all_declared [] others = refl
 all_declared (d ∷ own) others =
     (λ i. record { prefix = d.prefix; space = value_meant d.space i } ∷ all_declared own others i)
@@ -83,7 +91,8 @@ below_last : (rows : List Attribute) (r a : Attribute) → AreBelow rows a → n
 below_last [] r a b e = (e, tt)
 below_last (x ∷ rows) r a b e = (b.0, below_last rows r a b.1 e)
 
-under_last : (rows : List Attribute) (r : Attribute) (more : List Attribute) → AreUnder rows more → IsBefore r more → AreUnder (rows ++ r ∷ []) more
+under_last : (rows : List Attribute) (r : Attribute) (more : List Attribute) → AreUnder rows more → IsBefore r more
+    → AreUnder (rows ++ r ∷ []) more
 under_last rows r [] u b = tt
 under_last rows r (a ∷ more) u b = (below_last rows r a u.0 b.0, under_last rows r more u.1 b.1)
 
@@ -99,15 +108,18 @@ placed_last a (r ∷ rows) b =
 
 -- ---- the attributes and the name of a tag
 
-module _ (ds : List Declaration) (read : List reader.Declaration) (good : (space : List ℕ) → IsGood (prefix_of ds space)) (bare : nearest [] read ≡ Some []) where
+module _ (ds : List Declaration) (read : List reader.Declaration) (good : (space : List ℕ)
+    → IsGood (prefix_of ds space)) (bare : nearest [] read ≡ Some []) where
   -- a name without a prefix is in no namespace
   no_space : (space : List ℕ) → nearest [] read ≡ Some space → space ≡ []
   no_space space e = cc (bare, e)
 
-  none_declares : (prefix : Option (List ℕ)) (space local : List ℕ) → IsGood prefix → nearest (or_none prefix) read ≡ Some space → (bytes_eq space [] && bytes_eq local (codes "xmlns")) ≡ false
+  none_declares : (prefix : Option (List ℕ)) (space local : List ℕ) → IsGood prefix → nearest (or_none prefix) read ≡ Some space
+      → (bytes_eq space [] && bytes_eq local (codes "xmlns")) ≡ false
       → cond (bytes_eq (or_none prefix) [] && bytes_eq local (codes "xmlns")) true (bytes_eq (or_none prefix) (codes "xmlns")) ≡ false
   none_declares None space local g x h =
-      ap (λ b. cond b true false) (second_false (bytes_eq space []) (bytes_eq local (codes "xmlns")) ((bytes_eq-Decides space []).1 (no_space space x)) h)
+      ap (λ b. cond b true false) (second_false (bytes_eq space []) (bytes_eq local (codes "xmlns"))
+      ((bytes_eq-Decides space []).1 (no_space space x)) h)
   none_declares (Some []) space local g x h = absurd g.0
   none_declares (Some (b ∷ bs)) space local g x h = g.1
 
@@ -117,7 +129,8 @@ module _ (ds : List Declaration) (read : List reader.Declaration) (good : (space
   none_declared : (atts : List Attribute) → AreFine ds read atts → declarations (map attribute (attribute_pairs ds atts)) ≡ []
   none_declared [] f = refl
   none_declared (a ∷ more) f =
-      ap (λ b. cond b (declaration_of (attribute (pair (raw ds a.name) a.value)) ∷ declarations (map attribute (attribute_pairs ds more))) (declarations (map attribute (attribute_pairs ds more))))
+      ap (λ b. cond b (declaration_of (attribute (pair (raw ds a.name) a.value)) ∷ declarations (map attribute (attribute_pairs ds more)))
+      (declarations (map attribute (attribute_pairs ds more))))
       (no_declaration a f.0)
       ∙ none_declared more f.1
 
@@ -129,13 +142,17 @@ module _ (ds : List Declaration) (read : List reader.Declaration) (good : (space
 
   attribute_meant : (a : Attribute) → IsFineAttribute ds read a → attribute_of read (attribute (pair (raw ds a.name) a.value)) ≡ Some a
   attribute_meant a f =
-      ap (option_map (valued (value_of (value_pieces a.value)))) (attribute_named (prefix_of ds a.name.space) a.name (good a.name.space) f.0.1)
+      ap (option_map (valued (value_of (value_pieces a.value))))
+      (attribute_named (prefix_of ds a.name.space) a.name (good a.name.space) f.0.1)
       ∙ ap (λ value. Some (valued value a.name)) (value_meant a.value)
 
-  attributes_meant : (rows more : List Attribute) → AreFine ds read more → Rise more → AreUnder rows more → put_in_order read rows (map attribute (attribute_pairs ds more)) ≡ Some (rows ++ more)
+  attributes_meant : (rows more : List Attribute) → AreFine ds read more → Rise more → AreUnder rows more
+      → put_in_order read rows (map attribute (attribute_pairs ds more)) ≡ Some (rows ++ more)
   attributes_meant rows [] f r u = ap Some (sym (append-nil rows))
   attributes_meant rows (a ∷ more) f r u =
-      ap (λ b. cond b (put_in_order read rows later) (option_and_then (λ put. put_in_order read put later) (put_one read rows (attribute (pair (raw ds a.name) a.value))))) (no_declaration a f.0)
+      ap (λ b. cond b (put_in_order read rows later)
+      (option_and_then (λ put. put_in_order read put later) (put_one read rows (attribute (pair (raw ds a.name) a.value)))))
+      (no_declaration a f.0)
       ∙ ap (λ o. option_and_then (λ put. put_in_order read put later) (option_and_then (λ e. placed e rows) o)) (attribute_meant a f.0)
       ∙ ap (option_and_then (λ put. put_in_order read put later)) (placed_last a rows u.0)
       ∙ attributes_meant (rows ++ a ∷ []) more f.1 r.1 (under_last rows a more u.1 r.0)
@@ -149,14 +166,18 @@ module _ (ds : List Declaration) (read : List reader.Declaration) (good : (space
 
   -- ---- a start tag
 
-  pub start_meant : (own : List Declaration) (outside : List reader.Declaration) (name : Name) (atts : List Attribute) → map as_read own ++ outside ≡ read → list_all is_lawful (map as_read own) ≡ true
+  pub start_meant : (own : List Declaration) (outside : List reader.Declaration) (name : Name) (atts : List Attribute)
+      → map as_read own ++ outside ≡ read → list_all is_lawful (map as_read own) ≡ true
       → IsFineTag ds read name atts → opening outside (tag (start ds own name atts)) ≡ Some (opened name (map as_read own) atts)
   start_meant own outside name atts all law f =
       lawful outside (tag (start ds own name atts)) (ap (list_all is_lawful) declared ∙ law)
       ∙ ap (λ d. opening_in (d ++ outside) d (tag (start ds own name atts))) declared
       ∙ ap (λ d. opening_in d (map as_read own) (tag (start ds own name atts))) all
-      ∙ ap (option_and_then (λ n. option_map (opened n (map as_read own)) (put_in_order read [] (map attribute (declared_pairs own (attribute_pairs ds atts)))))) (name_meant name f.0)
-      ∙ ap (option_map (opened name (map as_read own))) (not_put read [] own (attribute_pairs ds atts) ∙ attributes_meant [] atts f.1 f.2 (none_under atts))
+      ∙ ap (option_and_then (λ n. option_map (opened n (map as_read own))
+      (put_in_order read [] (map attribute (declared_pairs own (attribute_pairs ds atts)))))) (name_meant name f.0)
+      ∙ ap (option_map (opened name (map as_read own)))
+      (not_put read [] own (attribute_pairs ds atts) ∙ attributes_meant [] atts f.1 f.2 (none_under atts))
     where
       declared : declarations (map attribute (declared_pairs own (attribute_pairs ds atts))) ≡ map as_read own
-      declared = all_declared own (attribute_pairs ds atts) ∙ ap (λ l. map as_read own ++ l) (none_declared atts f.1) ∙ append-nil (map as_read own)
+      declared = all_declared own (attribute_pairs ds atts) ∙ ap (λ l. map as_read own ++ l) (none_declared atts f.1)
+          ∙ append-nil (map as_read own)

@@ -7,10 +7,13 @@ use Rattle.ba_xml_grammar.specs.Grammar.{Pair, Pieces, nothing, written_value, w
 use Rattle.ba_xml_grammar.specs.GrammarWords.{written_name}
 use Rattle.ba_xml_writer.proofs.Resolved.{spelled_by}
 use Rattle.ba_xml_writer.specs.Namespaces.{Declaration}
-use Rattle.ba_xml_writer.specs.OneText.{text_escapes, value_escapes, spelled, escaped, qualified, valued, declarations, attributes, element, is_end, item, row_items}
+use Rattle.ba_xml_writer.specs.OneText.{text_escapes, value_escapes, spelled, escaped, qualified, valued, declarations, attributes, element}
+use Rattle.ba_xml_writer.specs.OneText.{is_end, item, row_items}
 use Rattle.ba_xml_writer.specs.Resolving.{prefix_of, before_colon}
 use Rattle.ba_xml.proofs.Prefixes.{IsGood}
-use Rattle.ba_xml.proofs.Spelling.{text_spelling, value_spelling, text_spelled, value_spelled, in_text, in_value, one_piece, one_value, text_pieces, value_pieces, or_none, raw, attribute_pairs, declared_pairs, start, element_pieces, item_pieces, row_pieces}
+use Rattle.ba_xml.proofs.Spelling.{text_spelling, value_spelling, text_spelled, value_spelled, in_text, in_value, one_piece, one_value}
+use Rattle.ba_xml.proofs.Spelling.{text_pieces, value_pieces, or_none, raw, attribute_pairs, declared_pairs, start, element_pieces}
+use Rattle.ba_xml.proofs.Spelling.{item_pieces, row_pieces}
 
 byte_written : (b : ℕ) (p : Pieces) (rest : List ℕ) → written (one_piece (in_text b) b p) rest ≡ spelled text_escapes b (written p rest)
 byte_written b p rest = by (nat_eq b 38) (nat_eq b 60) (nat_eq b 62) (nat_eq b 13)
@@ -48,14 +51,16 @@ value_written (b ∷ bs) rest = value_byte_written b bs rest ∙ ap (spelled val
 
 -- ---- names
 
-prefix_written : (prefix : Option (List ℕ)) (local rest : List ℕ) → IsGood prefix → written_name (record { prefix = or_none prefix; local = local }) rest ≡ before_colon prefix (local ++ rest)
+prefix_written : (prefix : Option (List ℕ)) (local rest : List ℕ) → IsGood prefix
+    → written_name (record { prefix = or_none prefix; local = local }) rest ≡ before_colon prefix (local ++ rest)
 prefix_written None local rest g = refl
 prefix_written (Some []) local rest g = absurd g.0
 prefix_written (Some (b ∷ bs)) local rest g = refl
 
 module _ (ds : List Declaration) (good : (space : List ℕ) → IsGood (prefix_of ds space)) where
   name_written : (name : Name) (rest : List ℕ) → written_name (raw ds name) rest ≡ qualified ds name rest
-  name_written name rest = prefix_written (prefix_of ds name.space) name.local rest (good name.space) ∙ sym (spelled_by ds name.space (name.local ++ rest))
+  name_written name rest = prefix_written (prefix_of ds name.space) name.local rest (good name.space)
+      ∙ sym (spelled_by ds name.space (name.local ++ rest))
 
   -- ---- tags
 
@@ -67,7 +72,8 @@ module _ (ds : List Declaration) (good : (space : List ℕ) → IsGood (prefix_o
       ∙ ap (λ l. 32 ∷ qualified ds a.name (61 ∷ 34 ∷ l)) (value_written a.value (34 ∷ later))
       ∙ ap (λ l. codes " " ++ qualified ds a.name (valued a.value l)) (attributes_written more rest)
 
-  declarations_written : (own : List Declaration) (others : List Pair) (rest : List ℕ) → written_pairs (declared_pairs own others) rest ≡ declarations own (written_pairs others rest)
+  declarations_written : (own : List Declaration) (others : List Pair) (rest : List ℕ)
+      → written_pairs (declared_pairs own others) rest ≡ declarations own (written_pairs others rest)
   declarations_written [] others rest = refl
   declarations_written (d ∷ own) others rest =
       let later : List ℕ = written_pairs (declared_pairs own others) rest in
@@ -83,20 +89,25 @@ module _ (ds : List Declaration) (good : (space : List ℕ) → IsGood (prefix_o
 
   -- ---- elements
 
-  pub element_written : (own : List Declaration) (name : Name) (atts : List Attribute) (none : Bool) (inside : Pieces) (f : List ℕ → List ℕ) (p : Pieces) (rest : List ℕ)
+  pub element_written : (own : List Declaration) (name : Name) (atts : List Attribute) (none : Bool) (inside : Pieces) (f : List ℕ
+      → List ℕ) (p : Pieces) (rest : List ℕ)
       → ((more : List ℕ) → written inside more ≡ f more)
       → written (element_pieces (start ds own name atts) none inside p) rest ≡ element ds own name atts none f (written p rest)
   element_written own name atts true inside f p rest within = start_written own name atts (47 ∷ 62 ∷ written p rest)
   element_written own name atts false inside f p rest within =
       start_written own name atts (62 ∷ written inside (written_end (raw ds name) [] (written p rest)))
       ∙ ap (λ l. codes "<" ++ qualified ds name (declarations own (attributes ds atts (62 ∷ l))))
-      (ap (λ l. written inside (60 ∷ 47 ∷ l)) (name_written name (62 ∷ written p rest)) ∙ within (codes "</" ++ qualified ds name (codes ">" ++ written p rest)))
+      (ap (λ l. written inside (60 ∷ 47 ∷ l)) (name_written name (62 ∷ written p rest))
+      ∙ within (codes "</" ++ qualified ds name (codes ">" ++ written p rest)))
 
   mutual
     pub item_written : (c : Content) (p : Pieces) (rest : List ℕ) → written (item_pieces ds c p) rest ≡ item ds c (written p rest)
     item_written (Text t) p rest = text_written t p rest
-    item_written (Child' name atts shape row) p rest = element_written [] name atts (is_end row) (row_pieces ds row nothing) (λ more. row_items ds row more) p rest (λ more. row_written row nothing more)
+    item_written (Child' name atts shape row) p rest =
+        element_written [] name atts (is_end row) (row_pieces ds row nothing) (λ more. row_items ds row more) p rest
+        (λ more. row_written row nothing more)
 
-    pub row_written : {m : _} (row : Row_of-Content m) (p : Pieces) (rest : List ℕ) → written (row_pieces ds row p) rest ≡ row_items ds row (written p rest)
+    pub row_written : {m : _} (row : Row_of-Content m) (p : Pieces) (rest : List ℕ)
+        → written (row_pieces ds row p) rest ≡ row_items ds row (written p rest)
     row_written end_of-Content p rest = refl
     row_written (more_of-Content c row) p rest = item_written c (row_pieces ds row p) rest ∙ ap (item ds c) (row_written row p rest)

@@ -1,11 +1,13 @@
 -- Believe: texts of XML 1.0 as their productions make them: what is written, what it means, and what may stand where.
-use Rattle.std.specs.Prelude.{◌≡◌, ℕ, ◌+◌, ◌≤◌, Bool, true, false, cond, Option, Some, None, List, [], ◌∷◌, ◌++◌, map, length, codes, encode_utf8}
+use Rattle.std.specs.Prelude.{◌≡◌, ℕ, ◌+◌, ◌≤◌, Bool, true, false, cond, Option, Some, None, List, [], ◌∷◌, ◌++◌, map, length, codes}
+use Rattle.std.specs.Prelude.{encode_utf8}
 use Rattle.std.specs.Char.{to_ascii_lowercase}
 use Rattle.ba_tree.specs.declared.trees.Content.{Content}
 use Rattle.ba_tree.specs.declared.trees.Content.TheVariants.{Child, Text}
 use Rattle.ba_tree.specs.declared.trees.Tree.{Tree}
 use Rattle.ba_xml_words.specs.Classes.{is_space}
-use Rattle.ba_xml_grammar.specs.GrammarWords.{Each, IsFront, Nowhere, Differ, IsWhite, IsGap, is_character, IsName, written_name, Reference, written_reference, character_of, IsReference, IsQuote}
+use Rattle.ba_xml_grammar.specs.GrammarWords.{Each, IsFront, Nowhere, Differ, IsWhite, IsGap, is_character, IsName, written_name, Reference}
+use Rattle.ba_xml_grammar.specs.GrammarWords.{written_reference, character_of, IsReference, IsQuote}
 use Rattle.ba_xml_names.specs.Namespaces.{opening}
 use Rattle.ba_xml_names.specs.declared.levels.Declaration.{Declaration}
 use Rattle.ba_xml_names.specs.declared.levels.Opening.{Opening}
@@ -154,7 +156,8 @@ written_standalone (standalone s answer) rest = written_saying s (codes "standal
 abbrev pub written_heading : Head → List ℕ → List ℕ
 written_heading no_head rest = rest
 written_heading (head version e s space) rest =
-    codes "<?xml" ++ written_saying version (codes "version") (codes "1.0") (written_encoding e (written_standalone s (space ++ (codes "?>" ++ rest))))
+    codes "<?xml" ++ written_saying version (codes "version") (codes "1.0")
+    (written_encoding e (written_standalone s (space ++ (codes "?>" ++ rest))))
 
 abbrev pub written_mark : Bool → List ℕ → List ℕ
 written_mark true rest = 0xEF ∷ 0xBB ∷ 0xBF ∷ rest
@@ -233,7 +236,8 @@ IsNew name [] = Unit {0}
 IsNew name (a ∷ before) = (name ≡ a.name → ⊥) × IsNew name before
 
 abbrev pub IsPair : List RawAttribute → Pair → Type 0
-IsPair before a = IsGap a.gap × IsName a.name × IsNew a.name before × IsWhite a.left × IsWhite a.right × IsQuote a.quote × IsValue a.quote a.value
+IsPair before a = IsGap a.gap × IsName a.name × IsNew a.name before × IsWhite a.left × IsWhite a.right × IsQuote a.quote
+    × IsValue a.quote a.value
 
 -- attributes behind these
 abbrev pub ArePairs : List RawAttribute → List Pair → Type 0
@@ -316,7 +320,8 @@ Resolves scope (reference r more) = Resolves scope more
 Resolves scope (section body more) = Resolves scope more
 Resolves scope (comment body more) = Resolves scope more
 Resolves scope (empty s more) = IsExplained scope s × Resolves scope more
-Resolves scope (element s inside space more) = IsExplained scope s × Resolves ((meant scope s).declarations ++ scope) inside × Resolves scope more
+Resolves scope (element s inside space more) = IsExplained scope s × Resolves ((meant scope s).declarations ++ scope) inside
+    × Resolves scope more
 
 -- ---- size: an element stands at level 32 at most, and a tag has at most 32 attributes
 

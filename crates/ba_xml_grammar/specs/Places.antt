@@ -2,7 +2,9 @@
 use Rattle.std.specs.Prelude.{◌≡◌, ℕ, ◌+◌, false, ◌<◌, ◌≤◌, ◌⊎◌, None, Result, Ok, Err, List, [], ◌∷◌, ◌++◌, length, take, Contains, IsUtf8}
 use Rattle.ba_tree.specs.declared.trees.Tree.{Tree}
 use Rattle.ba_xml_names.specs.Namespaces.{opening, first_scope}
-use Rattle.ba_xml_grammar.specs.Grammar.{Pair, Start, Pieces, nothing, character, reference, section, comment, empty, element, Document, written, written_misc, written_end, written_attribute, written_pairs, written_tag, written_document, tag, meant}
+use Rattle.ba_xml_grammar.specs.Grammar.{Pair, Start, Pieces, nothing, character, reference, section, comment, empty, element, Document}
+use Rattle.ba_xml_grammar.specs.Grammar.{written, written_misc, written_end, written_attribute, written_pairs, written_tag}
+use Rattle.ba_xml_grammar.specs.Grammar.{written_document, tag, meant}
 use Rattle.ba_xml_grammar.specs.GrammarTexts.{lines, IsWrittenAs, IsXmlText, CanContinue}
 use Rattle.ba_xml_words.specs.declared.faults.Reason.{Reason}
 use Rattle.ba_xml_words.specs.declared.faults.Reason.TheVariants as reason
@@ -72,7 +74,8 @@ IsTooDeep bytes place d t = (t.level ≡ 33) × IsAt bytes place d (written_tag 
 
 -- the name of a 33rd attribute begins here
 abbrev pub IsOneTooMany : List ℕ → ℕ → Document → Standing → Type 0
-IsOneTooMany bytes place d t = (first : List Pair) × (a : Pair) × (more : List Pair) × (t.start.pairs ≡ first ++ a ∷ more) × (length first ≡ 32)
+IsOneTooMany bytes place d t = (first : List Pair) × (a : Pair) × (more : List Pair) × (t.start.pairs ≡ first ++ a ∷ more)
+    × (length first ≡ 32)
     × IsAt bytes place d (written_attribute a (written_pairs more (t.start.space ++ t.closing)))
 
 -- a tag that no declarations explain ends here

@@ -1,5 +1,6 @@
 -- Believe: Namespaces in XML 1.0: what prefixes mean, and what a start tag means by them.
-use Rattle.std.specs.Prelude.{ℕ, ◌≤◌, List, [], ◌∷◌, ◌++◌, Bool, true, false, cond, not, ◌&&◌, Option, Some, None, bytes_eq, option_map, option_and_then, codes}
+use Rattle.std.specs.Prelude.{ℕ, ◌≤◌, List, [], ◌∷◌, ◌++◌, Bool, true, false, cond, not, ◌&&◌, Option, Some, None, bytes_eq, option_map}
+use Rattle.std.specs.Prelude.{option_and_then, codes}
 use Rattle.std.specs.List.{list_all, insert}
 use Rattle.std.specs.declared.cmp.Ordering.{Ordering}
 use Rattle.std.specs.declared.cmp.Ordering.TheVariants as order
@@ -98,7 +99,8 @@ abbrev pub opened : Name → List Declaration → List Attribute → Opening
 opened name ds rows = record { name = name; attributes = rows; declarations = ds }
 
 abbrev pub opening_in : List Declaration → List Declaration → Tag → Option Opening
-opening_in all ds tag = option_and_then (λ name. option_map (opened name ds) (put_in_order all [] tag.attributes)) (element_name all tag.name)
+opening_in all ds tag = option_and_then (λ name. option_map (opened name ds) (put_in_order all [] tag.attributes))
+    (element_name all tag.name)
 
 -- what a start tag means where these declarations hold outside; none where its declarations aren't lawful, a prefix has
 -- none, or two attributes have one name

@@ -18,7 +18,8 @@ use Rattle.ba_xml_reader.proofs.SoundDocuments.{top}
 use Rattle.ba_xml_places.proofs.Leads.{Goes}
 use Rattle.ba_xml_grammar.specs.GrammarTexts.{IsWellFormed, CanContinue}
 use Rattle.ba_xml_grammar.specs.Places.{IsDead}
-use Rattle.ba_xml_reader.specs.inside.Machine.{start, run, state_after, line_end, unless_returned, finished, answer_by, answer_of, xml_answer}
+use Rattle.ba_xml_reader.specs.inside.Machine.{start, run, state_after, line_end, unless_returned, finished, answer_by, answer_of}
+use Rattle.ba_xml_reader.specs.inside.Machine.{xml_answer}
 use Rattle.ba_xml_words.specs.inside.Octets.{octet_after}
 use Rattle.ba_xml_words.specs.declared.faults.Reason.{Reason}
 use Rattle.ba_xml_words.specs.declared.faults.Reason.TheVariants as reason

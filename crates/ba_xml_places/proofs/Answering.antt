@@ -20,7 +20,8 @@ use Rattle.ba_xml_reader.proofs.SoundBack.{back}
 use Rattle.ba_xml_reader.proofs.SoundDocuments.{top}
 use Rattle.ba_xml_grammar.specs.Grammar.{written_attribute, written_pairs, written_tag}
 use Rattle.ba_xml_grammar.specs.Places.{IsCause, IsDead, IsLeast, IsTruncated, IsRefused, IsAnswerOf, number_of}
-use Rattle.ba_xml_reader.specs.inside.Machine.{start, run, turned, counted, reason_at, reason_past, finished, answer_by, answer_of, xml_answer}
+use Rattle.ba_xml_reader.specs.inside.Machine.{start, run, turned, counted, reason_at, reason_past, finished, answer_by, answer_of}
+use Rattle.ba_xml_reader.specs.inside.Machine.{xml_answer}
 use Rattle.ba_xml_words.specs.declared.faults.Reason.{Reason}
 use Rattle.ba_xml_words.specs.declared.faults.Reason.TheVariants as reason
 use Rattle.ba_xml_words.specs.declared.faults.XmlFault.{XmlFault}

@@ -556,7 +556,8 @@ pieces_or level parent outer here content text seen (character b more) rest a n 
     (character_runs parent outer (holding here content text) seen b (row more) a.0.0 a.0.1 a.0.2 n)
     (λ to n. pieces_or level parent outer here content (text ++ b ∷ []) to more rest a.1 n l d)
 pieces_or level parent outer here content text seen (reference x more) rest a n l d =
-    let ih = pieces_or level parent outer here content (text ++ encode_utf8 (character_of x)) Zero more rest a.1 (row_safe more a.1) l d in (
+    let ih = pieces_or level parent outer here content (text ++ encode_utf8 (character_of x)) Zero more rest a.1
+    (row_safe more a.1) l d in (
       ih.0,
       before (standings level (scope (here ∷ parent ∷ outer)) more rest) _
           (At (parent ∷ outer) (holding here content (text ++ encode_utf8 (character_of x))) (mode.Inside Zero)) _
@@ -618,7 +619,8 @@ pieces_or level parent outer here content text seen (element s inside space more
           (written more rest) rest
           (λ u c. Contains-append_left (st ∷ vs) us u c) (λ u c. Contains-append_right (st ∷ vs) us u c)
           (either_of (st ∷ vs) us) (pieces_within level sc more rest) (written_longer more rest)
-          (deep_or level parent outer (holding here content text) seen s (62 ∷ written inside (written_end s.name space (written more rest)))
+          (deep_or level parent outer (holding here content text) seen s
+          (62 ∷ written inside (written_end s.name space (written more rest)))
           (element_state (parent ∷ outer) (holding here content text) s inside) (written more rest) sc vs a.0
           (up_within vs (length (written inside (written_end s.name space (written more rest))))
           (pieces_within (level + 1) ((meant sc s).declarations ++ sc) inside (written_end s.name space (written more rest))))

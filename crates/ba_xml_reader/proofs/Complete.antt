@@ -20,11 +20,18 @@ pub legal_octets : (bytes : List ℕ) → IsOfCharacters bytes → octets (At Be
 legal_octets bytes c = ap (octets (At Between)) c.2 ∙ characters_octets c.0 c.1
 
 pub complete : (bytes : List ℕ) (tree : Tree) → IsXmlText bytes tree → xml_answer bytes ≡ Ok tree
-complete bytes tree x = by (to [] (holding document (Child tree ∷ []) []) (mode.Inside Zero) Between bytes (state.At [] document mode.Begin) Between false 0 (legal_octets bytes x.1.0) states (omega (arith, x.2.0)))
+complete bytes tree x = by (to [] (holding document (Child tree ∷ []) []) (mode.Inside Zero) Between bytes (state.At [] document mode.Begin)
+    Between false 0 (legal_octets bytes x.1.0) states (omega (arith, x.2.0)))
   where
-    states : steps (state.At [] document mode.Begin) (lines false bytes) ≡ state.At [] (holding document (Child tree ∷ []) []) (mode.Inside Zero)
+    states : steps (state.At [] document mode.Begin) (lines false bytes)
+        ≡ state.At [] (holding document (Child tree ∷ []) []) (mode.Inside Zero)
     states = ap (steps (state.At [] document mode.Begin)) x.1.2 ∙ document_runs x.0 tree x.1.1 x.3.0 x.3.1 x.2.1
 
     by : (r : Bool) × (run (reading.Going (record { state = state.At [] document mode.Begin; octet = Between; returned = false }) 0) bytes
-        ≡ reading.Going (record { state = state.At [] (holding document (Child tree ∷ []) []) (mode.Inside Zero); octet = Between; returned = r }) (0 + length bytes)) → xml_answer bytes ≡ Ok tree
+        ≡ reading.Going (record {
+          state = state.At [] (holding document (Child tree ∷ []) []) (mode.Inside Zero);
+          octet =
+              Between;
+          returned = r;
+        }) (0 + length bytes)) → xml_answer bytes ≡ Ok tree
     by r = ap answer_of r.1 ∙ ap (answer_by (0 + length bytes)) (ended_tree tree)

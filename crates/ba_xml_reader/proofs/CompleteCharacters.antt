@@ -1,12 +1,14 @@
 -- UTF-8 over the bytes of the characters of a text.
-use Rattle.std.proofs.Common.{◌≡◌, ℕ, ◌+◌, ◌/◌, ◌%◌, ◌<◌, ◌≤◌, ◌==◌, nat_lt, Bool, true, false, ◌&&◌, ◌⊎◌, inl, inr, List, [], ◌∷◌, ◌++◌, encode_utf8_all, refl, sym, ap, ◌∙◌, arith, le-ltb, true≢false}
+use Rattle.std.proofs.Common.{◌≡◌, ℕ, ◌+◌, ◌/◌, ◌%◌, ◌<◌, ◌≤◌, ◌==◌, nat_lt, Bool, true, false, ◌&&◌, ◌⊎◌, inl, inr, List, [], ◌∷◌, ◌++◌}
+use Rattle.std.proofs.Common.{encode_utf8_all, refl, sym, ap, ◌∙◌, arith, le-ltb, true≢false}
 use Rattle.std.proofs.lemmas.Bool.{lt-ltb, ne_eqb, ltb-true, ltb-false, eqb-true, eqb-false}
 use Rattle.std.specs.Char.{encode_utf8}
 use Rattle.std.specs.List.{list_all}
 use Rattle.ba_tree.specs.Characters as characters
 use Rattle.ba_xml_words.specs.inside.Octets.{octet_after, lead}
 use Rattle.ba_xml_words.specs.declared.octets.Octet.{Octet}
-use Rattle.ba_xml_words.specs.declared.octets.Octet.TheVariants.{Between, One, Two, Three, AfterE0, AfterED, AfterEF, AfterEFBF, AfterF0, AfterF4}
+use Rattle.ba_xml_words.specs.declared.octets.Octet.TheVariants.{Between, One, Two, Three, AfterE0, AfterED, AfterEF, AfterEFBF, AfterF0}
+use Rattle.ba_xml_words.specs.declared.octets.Octet.TheVariants.{AfterF4}
 use Rattle.ba_xml_words.specs.declared.octets.Decoding.{Decoding}
 use Rattle.ba_xml_words.specs.declared.octets.Decoding.TheVariants.{At, Broken}
 use Rattle.ba_xml_reader.proofs.CompleteReferences.{legal_ranges}
@@ -60,7 +62,12 @@ trail_EFBF b e = rw e refl
 
 trail_last : (b : ℕ) → 0x80 ≤ b → b ≤ 0xBD → octet_after AfterEFBF b ≡ At Between
 unfolding octet_after
-trail_last b l h = rw (ne_eqb b 0xBE (λ e. omega (arith, e, h)), ne_eqb b 0xBF (λ e. omega (arith, e, h)), le-ltb b 0x80 l, le-ltb 0xBD b h) refl
+trail_last b l h = rw (
+  ne_eqb b 0xBE (λ e. omega (arith, e, h)),
+  ne_eqb b 0xBF (λ e. omega (arith, e, h)),
+  le-ltb b 0x80 l,
+  le-ltb 0xBD b h,
+) refl
 
 trail_F0 : (b : ℕ) → 0x90 ≤ b → b ≤ 0xBF → octet_after AfterF0 b ≡ At Two
 unfolding octet_after
@@ -82,7 +89,15 @@ lead_two b l h = rw (le-ltb b 0x80 (omega (arith, l)), le-ltb b 0xC2 l, lt-ltb b
 
 lead_three : (b : ℕ) → 0xE0 ≤ b → b < 0xF0 → (b ≡ 0xE0 → ⊥) → (b ≡ 0xED → ⊥) → (b ≡ 0xEF → ⊥) → octet_after Between b ≡ At Two
 unfolding octet_after lead
-lead_three b l h x y z = rw (le-ltb b 0x80 (omega (arith, l)), le-ltb b 0xC2 (omega (arith, l)), le-ltb b 0xE0 l, lt-ltb b 0xF0 h, ne_eqb b 0xE0 x, ne_eqb b 0xED y, ne_eqb b 0xEF z) refl
+lead_three b l h x y z = rw (
+  le-ltb b 0x80 (omega (arith, l)),
+  le-ltb b 0xC2 (omega (arith, l)),
+  le-ltb b 0xE0 l,
+  lt-ltb b 0xF0 h,
+  ne_eqb b 0xE0 x,
+  ne_eqb b 0xED y,
+  ne_eqb b 0xEF z,
+) refl
 
 lead_E0 : octet_after Between 0xE0 ≡ At AfterE0
 unfolding octet_after lead
@@ -106,7 +121,14 @@ lead_F4 = refl
 
 lead_four : (b : ℕ) → 0xF1 ≤ b → b < 0xF4 → octet_after Between b ≡ At Three
 unfolding octet_after lead
-lead_four b l h = rw (le-ltb b 0x80 (omega (arith, l)), le-ltb b 0xC2 (omega (arith, l)), le-ltb b 0xE0 (omega (arith, l)), le-ltb b 0xF0 (omega (arith, l)), ne_eqb b 0xF0 (λ e. omega (arith, e, l)), lt-ltb b 0xF4 h) refl
+lead_four b l h = rw (
+  le-ltb b 0x80 (omega (arith, l)),
+  le-ltb b 0xC2 (omega (arith, l)),
+  le-ltb b 0xE0 (omega (arith, l)),
+  le-ltb b 0xF0 (omega (arith, l)),
+  ne_eqb b 0xF0 (λ e. omega (arith, e, l)),
+  lt-ltb b 0xF4 h,
+) refl
 
 -- ---- characters
 
@@ -126,7 +148,8 @@ module _ (c : ℕ) where
   unfolding encode_utf8
   encoded_three l h = rw (le-ltb c 0x80 (omega (arith, l)), le-ltb c 0x800 l, lt-ltb c 0x10000 h) refl
 
-  pub encoded_four : 0x10000 ≤ c → encode_utf8 c ≡ (240 + c / 262144) ∷ (128 + (c / 4096) % 64) ∷ (128 + (c / 64) % 64) ∷ (128 + c % 64) ∷ []
+  pub encoded_four : 0x10000 ≤ c → encode_utf8 c ≡ (240 + c / 262144) ∷ (128 + (c / 4096) % 64) ∷ (128 + (c / 64) % 64)
+      ∷ (128 + c % 64) ∷ []
   unfolding encode_utf8
   encoded_four l = rw (le-ltb c 0x80 (omega (arith, l)), le-ltb c 0x800 (omega (arith, l)), le-ltb c 0x10000 l) refl
 
@@ -137,14 +160,16 @@ module _ (c : ℕ) where
   last_one = trail (128 + c % 64) (omega arith) (omega arith)
 
   last_two : octets (At Two) ((128 + (c / 64) % 64) ∷ (128 + c % 64) ∷ []) ≡ At Between
-  last_two = one_more (128 + (c / 64) % 64) ((128 + c % 64) ∷ []) Two One (At Between) (trail_two (128 + (c / 64) % 64) (omega arith) (omega arith)) last_one
+  last_two = one_more (128 + (c / 64) % 64) ((128 + c % 64) ∷ []) Two One (At Between)
+      (trail_two (128 + (c / 64) % 64) (omega arith) (omega arith)) last_one
 
   of_one : c < 0x80 → Well
   of_one h = ap (octets (At Between)) (encoded_one h) ∙ lead_one c h
 
   of_two : 0x80 ≤ c → c < 0x800 → Well
   of_two l h = ap (octets (At Between)) (encoded_two l h)
-      ∙ one_more (192 + c / 64) ((128 + c % 64) ∷ []) Between One (At Between) (lead_two (192 + c / 64) (omega (arith, l)) (omega (arith, h))) last_one
+      ∙ one_more (192 + c / 64) ((128 + c % 64) ∷ []) Between One (At Between)
+      (lead_two (192 + c / 64) (omega (arith, l)) (omega (arith, h))) last_one
 
   Two_last : List ℕ
   Two_last = (128 + (c / 64) % 64) ∷ (128 + c % 64) ∷ []
@@ -152,30 +177,38 @@ module _ (c : ℕ) where
   at_E0 : 0x800 ≤ c → c / 4096 ≡ 0 → octets (At Between) ((224 + c / 4096) ∷ (128 + (c / 64) % 64) ∷ (128 + c % 64) ∷ []) ≡ At Between
   at_E0 l e = ap (λ x. octets (octet_after Between (224 + x)) ((128 + (c / 64) % 64) ∷ (128 + c % 64) ∷ [])) e
       ∙ ap (λ x. octets x ((128 + (c / 64) % 64) ∷ (128 + c % 64) ∷ [])) lead_E0
-      ∙ one_more (128 + (c / 64) % 64) ((128 + c % 64) ∷ []) AfterE0 One (At Between) (trail_E0 (128 + (c / 64) % 64) (omega (arith, l, e)) (omega arith)) last_one
+      ∙ one_more (128 + (c / 64) % 64) ((128 + c % 64) ∷ []) AfterE0 One (At Between)
+      (trail_E0 (128 + (c / 64) % 64) (omega (arith, l, e)) (omega arith)) last_one
 
   at_ED : c < 0xD800 → c / 4096 ≡ 13 → octets (At Between) ((224 + c / 4096) ∷ (128 + (c / 64) % 64) ∷ (128 + c % 64) ∷ []) ≡ At Between
   at_ED h e = ap (λ x. octets (octet_after Between (224 + x)) ((128 + (c / 64) % 64) ∷ (128 + c % 64) ∷ [])) e
       ∙ ap (λ x. octets x ((128 + (c / 64) % 64) ∷ (128 + c % 64) ∷ [])) lead_ED
-      ∙ one_more (128 + (c / 64) % 64) ((128 + c % 64) ∷ []) AfterED One (At Between) (trail_ED (128 + (c / 64) % 64) (omega arith) (omega (arith, h, e))) last_one
+      ∙ one_more (128 + (c / 64) % 64) ((128 + c % 64) ∷ []) AfterED One (At Between)
+      (trail_ED (128 + (c / 64) % 64) (omega arith) (omega (arith, h, e))) last_one
 
-  at_EF : c ≤ 0xFFFD → c / 4096 ≡ 15 → ((c / 64) % 64 ≡ 63) ⊎ ((c / 64) % 64 < 63) → octets (At Between) ((224 + c / 4096) ∷ (128 + (c / 64) % 64) ∷ (128 + c % 64) ∷ []) ≡ At Between
+  at_EF : c ≤ 0xFFFD → c / 4096 ≡ 15 → ((c / 64) % 64 ≡ 63) ⊎ ((c / 64) % 64 < 63)
+      → octets (At Between) ((224 + c / 4096) ∷ (128 + (c / 64) % 64) ∷ (128 + c % 64) ∷ []) ≡ At Between
   at_EF h e (inr low) = ap (λ x. octets (octet_after Between (224 + x)) ((128 + (c / 64) % 64) ∷ (128 + c % 64) ∷ [])) e
       ∙ ap (λ x. octets x ((128 + (c / 64) % 64) ∷ (128 + c % 64) ∷ [])) lead_EF
-      ∙ one_more (128 + (c / 64) % 64) ((128 + c % 64) ∷ []) AfterEF One (At Between) (trail_EF (128 + (c / 64) % 64) (omega arith) (omega (arith, low))) last_one
+      ∙ one_more (128 + (c / 64) % 64) ((128 + c % 64) ∷ []) AfterEF One (At Between)
+      (trail_EF (128 + (c / 64) % 64) (omega arith) (omega (arith, low))) last_one
   at_EF h e (inl high) = ap (λ x. octets (octet_after Between (224 + x)) ((128 + (c / 64) % 64) ∷ (128 + c % 64) ∷ [])) e
       ∙ ap (λ x. octets x ((128 + (c / 64) % 64) ∷ (128 + c % 64) ∷ [])) lead_EF
-      ∙ one_more (128 + (c / 64) % 64) ((128 + c % 64) ∷ []) AfterEF AfterEFBF (At Between) (trail_EFBF (128 + (c / 64) % 64) (omega (arith, high)))
+      ∙ one_more (128 + (c / 64) % 64) ((128 + c % 64) ∷ []) AfterEF AfterEFBF (At Between)
+      (trail_EFBF (128 + (c / 64) % 64) (omega (arith, high)))
       (trail_last (128 + c % 64) (omega arith) (omega (arith, high, h, e)))
 
-  at_other : 0x800 ≤ c → c < 0x10000 → (c / 4096 ≡ 0 → ⊥) → (c / 4096 ≡ 13 → ⊥) → (c / 4096 ≡ 15 → ⊥) → octets (At Between) ((224 + c / 4096) ∷ (128 + (c / 64) % 64) ∷ (128 + c % 64) ∷ []) ≡ At Between
+  at_other : 0x800 ≤ c → c < 0x10000 → (c / 4096 ≡ 0 → ⊥) → (c / 4096 ≡ 13 → ⊥) → (c / 4096 ≡ 15 → ⊥)
+      → octets (At Between) ((224 + c / 4096) ∷ (128 + (c / 64) % 64) ∷ (128 + c % 64) ∷ []) ≡ At Between
   at_other l h x y z = one_more (224 + c / 4096) ((128 + (c / 64) % 64) ∷ (128 + c % 64) ∷ []) Between Two (At Between)
-      (lead_three (224 + c / 4096) (omega arith) (omega (arith, h)) (λ e. x (omega (arith, e))) (λ e. y (omega (arith, e))) (λ e. z (omega (arith, e)))) last_two
+      (lead_three (224 + c / 4096) (omega arith) (omega (arith, h)) (λ e. x (omega (arith, e))) (λ e. y (omega (arith, e)))
+      (λ e. z (omega (arith, e)))) last_two
 
   pub of_three : 0x800 ≤ c → c < 0x10000 → (c < 0xD800) ⊎ ((0xE000 ≤ c) × (c ≤ 0xFFFD)) → Well
   of_three l h r = ap (octets (At Between)) (encoded_three l h) ∙ by_lead (c / 4096 == 0) (c / 4096 == 13) (c / 4096 == 15) refl refl refl r
     where
-      by_lead : (x y z : Bool) → (c / 4096 == 0) ≡ x → (c / 4096 == 13) ≡ y → (c / 4096 == 15) ≡ z → (c < 0xD800) ⊎ ((0xE000 ≤ c) × (c ≤ 0xFFFD))
+      by_lead : (x y z : Bool) → (c / 4096 == 0) ≡ x → (c / 4096 == 13) ≡ y → (c / 4096 == 15) ≡ z
+          → (c < 0xD800) ⊎ ((0xE000 ≤ c) × (c ≤ 0xFFFD))
           → octets (At Between) ((224 + c / 4096) ∷ (128 + (c / 64) % 64) ∷ (128 + c % 64) ∷ []) ≡ At Between
       by_lead true y z x_is y_is z_is r = at_E0 l (eqb-true (c / 4096) 0 x_is)
       by_lead false true z x_is y_is z_is (inl low) = at_ED low (eqb-true (c / 4096) 13 y_is)
@@ -195,7 +228,8 @@ module _ (c : ℕ) where
             where
               less : ((c / 64) % 64 ≡ 63 → ⊥) → (c / 64) % 64 < 63
               less n = omega (arith, n)
-      by_lead false false false x_is y_is z_is r = at_other l h (eqb-false (c / 4096) 0 x_is) (eqb-false (c / 4096) 13 y_is) (eqb-false (c / 4096) 15 z_is)
+      by_lead false false false x_is y_is z_is r =
+          at_other l h (eqb-false (c / 4096) 0 x_is) (eqb-false (c / 4096) 13 y_is) (eqb-false (c / 4096) 15 z_is)
 
   Four : Type 0
   Four = octets (At Between) ((240 + c / 262144) ∷ (128 + (c / 4096) % 64) ∷ (128 + (c / 64) % 64) ∷ (128 + c % 64) ∷ []) ≡ At Between
@@ -204,19 +238,23 @@ module _ (c : ℕ) where
   unfolding Four
   at_F0 l e = ap (λ x. octets (octet_after Between (240 + x)) ((128 + (c / 4096) % 64) ∷ (128 + (c / 64) % 64) ∷ (128 + c % 64) ∷ [])) e
       ∙ ap (λ x. octets x ((128 + (c / 4096) % 64) ∷ (128 + (c / 64) % 64) ∷ (128 + c % 64) ∷ [])) lead_F0
-      ∙ one_more (128 + (c / 4096) % 64) ((128 + (c / 64) % 64) ∷ (128 + c % 64) ∷ []) AfterF0 Two (At Between) (trail_F0 (128 + (c / 4096) % 64) (omega (arith, l, e)) (omega arith)) last_two
+      ∙ one_more (128 + (c / 4096) % 64) ((128 + (c / 64) % 64) ∷ (128 + c % 64) ∷ []) AfterF0 Two (At Between)
+      (trail_F0 (128 + (c / 4096) % 64) (omega (arith, l, e)) (omega arith)) last_two
 
   at_F4 : c ≤ 0x10FFFF → c / 262144 ≡ 4 → Four
   unfolding Four
   at_F4 h e = ap (λ x. octets (octet_after Between (240 + x)) ((128 + (c / 4096) % 64) ∷ (128 + (c / 64) % 64) ∷ (128 + c % 64) ∷ [])) e
       ∙ ap (λ x. octets x ((128 + (c / 4096) % 64) ∷ (128 + (c / 64) % 64) ∷ (128 + c % 64) ∷ [])) lead_F4
-      ∙ one_more (128 + (c / 4096) % 64) ((128 + (c / 64) % 64) ∷ (128 + c % 64) ∷ []) AfterF4 Two (At Between) (trail_F4 (128 + (c / 4096) % 64) (omega arith) (omega (arith, h, e))) last_two
+      ∙ one_more (128 + (c / 4096) % 64) ((128 + (c / 64) % 64) ∷ (128 + c % 64) ∷ []) AfterF4 Two (At Between)
+      (trail_F4 (128 + (c / 4096) % 64) (omega arith) (omega (arith, h, e))) last_two
 
   at_F1 : c ≤ 0x10FFFF → (c / 262144 ≡ 0 → ⊥) → (c / 262144 ≡ 4 → ⊥) → Four
   unfolding Four
-  at_F1 h x y = one_more (240 + c / 262144) ((128 + (c / 4096) % 64) ∷ (128 + (c / 64) % 64) ∷ (128 + c % 64) ∷ []) Between Three (At Between)
+  at_F1 h x y = one_more (240 + c / 262144) ((128 + (c / 4096) % 64) ∷ (128 + (c / 64) % 64) ∷ (128 + c % 64) ∷ []) Between
+      Three (At Between)
       (lead_four (240 + c / 262144) (omega (arith, x)) (omega (arith, h, y)))
-      (one_more (128 + (c / 4096) % 64) ((128 + (c / 64) % 64) ∷ (128 + c % 64) ∷ []) Three Two (At Between) (trail_three (128 + (c / 4096) % 64) (omega arith) (omega arith)) last_two)
+      (one_more (128 + (c / 4096) % 64) ((128 + (c / 64) % 64) ∷ (128 + c % 64) ∷ []) Three Two (At Between)
+      (trail_three (128 + (c / 4096) % 64) (omega arith) (omega arith)) last_two)
 
   pub of_four : 0x10000 ≤ c → c ≤ 0x10FFFF → Well
   unfolding Four
@@ -246,10 +284,12 @@ one_of : (x y : Bool) → (x && y) ≡ true → (x ≡ true) × (y ≡ true)
 one_of true y e = (refl, e)
 one_of false y e = absurd (true≢false (sym e))
 
-octets_all : (c : ℕ) (cs : List ℕ) → (characters.is_legal c ≡ true) × (list_all characters.is_legal cs ≡ true) → (list_all characters.is_legal cs ≡ true → octets (At Between) (encode_utf8_all cs) ≡ At Between)
+octets_all : (c : ℕ) (cs : List ℕ) → (characters.is_legal c ≡ true) × (list_all characters.is_legal cs ≡ true)
+    → (list_all characters.is_legal cs ≡ true → octets (At Between) (encode_utf8_all cs) ≡ At Between)
     → octets (At Between) (encode_utf8 c ++ encode_utf8_all cs) ≡ At Between
 octets_all c cs e ih = octets_append (encode_utf8 c) (encode_utf8_all cs) Between Between (character_octets c e.0) ∙ ih e.1
 
 pub characters_octets : (cs : List ℕ) → list_all characters.is_legal cs ≡ true → octets (At Between) (encode_utf8_all cs) ≡ At Between
 characters_octets [] e = refl
-characters_octets (c ∷ cs) e = octets_all c cs (one_of (characters.is_legal c) (list_all characters.is_legal cs) e) (λ q. characters_octets cs q)
+characters_octets (c ∷ cs) e = octets_all c cs (one_of (characters.is_legal c) (list_all characters.is_legal cs) e)
+    (λ q. characters_octets cs q)

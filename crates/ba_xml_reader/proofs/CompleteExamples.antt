@@ -11,7 +11,9 @@ use Rattle.ba_xml_words.specs.declared.faults.Reason.TheVariants as reason
 use Rattle.ba_xml_words.specs.declared.faults.XmlFault.TheVariants as fault
 use Rattle.ba_xml_reader.specs.inside.Machine.{run, reading_after, state_after, xml_answer}
 use Rattle.ba_xml_names.specs.Namespaces.{opening, first_scope}
-use Rattle.ba_xml_grammar.specs.Grammar.{value_end, value_character, value_reference, Start, nothing, character, reference, section, comment, empty, element, misc_end, misc_space, no_head, head, Saying, encoding, no_standalone, Document, IsDocument, IsSaying, IsExplained, meaning}
+use Rattle.ba_xml_grammar.specs.Grammar.{value_end, value_character, value_reference, Start, nothing, character, reference, section}
+use Rattle.ba_xml_grammar.specs.Grammar.{comment, empty, element, misc_end, misc_space, no_head, head, Saying, encoding, no_standalone}
+use Rattle.ba_xml_grammar.specs.Grammar.{Document, IsDocument, IsSaying, IsExplained, meaning}
 use Rattle.ba_xml_grammar.specs.GrammarTexts.{IsXmlText, IsOfCharacters, CanContinue}
 use Rattle.ba_xml_grammar.specs.GrammarWords.{IsFront, greater, decimal}
 
@@ -22,7 +24,15 @@ abbrev start : Start
 start = record {
   name = record { prefix = []; local = codes "a" };
   space = [];
-  pairs = (record { gap = codes " "; name = record { prefix = []; local = codes "b" }; left = []; right = []; quote = 39; value = value_character 49 (value_reference (decimal (codes "50")) value_end) }) ∷ [];
+  pairs = (record {
+    gap = codes " ";
+    name = record { prefix = []; local = codes "b" };
+    left = [];
+    right = [];
+    quote = 39;
+    value =
+        value_character 49 (value_reference (decimal (codes "50")) value_end);
+  }) ∷ [];
 }
 
 abbrev document : Document
@@ -69,7 +79,22 @@ lawful = (
   tt,
   tt,
   (
-    ((tt, (refl, tt)), (((tt, (refl, tt)), (tt, (refl, tt)), tt, tt, tt, inr refl, (refl, refl, refl, refl, ((tt, (refl, (refl, tt)), refl), tt))), tt), tt),
+    (
+      (tt, (refl, tt)),
+      (
+        (
+          (tt, (refl, tt)),
+          (tt, (refl, tt)),
+          tt,
+          tt,
+          tt,
+          inr refl,
+          (refl, refl, refl, refl, ((tt, (refl, (refl, tt)), refl), tt)),
+        ),
+        tt,
+      ),
+      tt,
+    ),
     ((refl, refl, refl, no_bracket), (tt, (((refl, tt), (no_letter, (no_hyphen, tt))), (((refl, tt), (no_less, tt)), tt)))),
     tt,
     tt,
@@ -107,11 +132,26 @@ abbrev prefixed : Start
 prefixed = record {
   name = record { prefix = codes "p"; local = codes "a" };
   space = [];
-  pairs = (record { gap = codes " "; name = record { prefix = codes "xmlns"; local = codes "p" }; left = []; right = []; quote = 39; value = value_character 117 value_end }) ∷ [];
+  pairs = (record {
+    gap = codes " ";
+    name = record { prefix = codes "xmlns"; local = codes "p" };
+    left = [];
+    right = [];
+    quote = 39;
+    value =
+        value_character 117 value_end;
+  }) ∷ [];
 }
 
 abbrev marked_document : Document
-marked_document = record { mark = true; heading = head single_quotes (encoding single_quotes (codes "UTF-8")) no_standalone []; before = misc_space 10 misc_end; behind = misc_end; root = empty prefixed nothing }
+marked_document = record {
+  mark = true;
+  heading = head single_quotes (encoding single_quotes (codes "UTF-8")) no_standalone [];
+  before =
+      misc_space 10 misc_end;
+  behind = misc_end;
+  root = empty prefixed nothing;
+}
 
 abbrev pub marked_tree : Tree
 marked_tree = record { name = record { space = codes "u"; local = codes "a" }; attributes = []; content = [] }
@@ -124,7 +164,25 @@ marked_lawful = (
   (said, (said, refl), tt, tt),
   (refl, tt),
   tt,
-  ((((refl, tt), (refl, tt)), (((tt, (refl, tt)), ((refl, (refl, (refl, (refl, (refl, tt))))), (refl, tt)), tt, tt, tt, inr refl, (refl, refl, refl, refl, tt)), tt), tt), tt),
+  (
+    (
+      ((refl, tt), (refl, tt)),
+      (
+        (
+          (tt, (refl, tt)),
+          ((refl, (refl, (refl, (refl, (refl, tt))))), (refl, tt)),
+          tt,
+          tt,
+          tt,
+          inr refl,
+          (refl, refl, refl, refl, tt),
+        ),
+        tt,
+      ),
+      tt,
+    ),
+    tt,
+  ),
   tt,
 )
 
@@ -134,14 +192,27 @@ marked_characters = (0xFEFF ∷ (codes "<?xml version='1.0' encoding='UTF-8'?>" 
 
 marked_explained : IsExplained first_scope prefixed
 unfolding opening
-marked_explained = (record { name = marked_tree.name; attributes = []; declarations = (record { prefix = codes "p"; space = codes "u" }) ∷ [] }, refl)
+marked_explained = (
+  record {
+    name = marked_tree.name;
+    attributes = [];
+    declarations =
+        (record { prefix = codes "p"; space = codes "u" }) ∷ [];
+  },
+  refl,
+)
 
 marked_means : meaning first_scope marked_document.root ≡ Child marked_tree ∷ []
 unfolding opening
 marked_means = refl
 
 pub marked_read : xml_answer marked ≡ Ok marked_tree
-marked_read = complete marked marked_tree (marked_document, (marked_characters, marked_lawful, refl), (omega arith, (omega arith, omega arith, tt)), ((marked_explained, tt), marked_means))
+marked_read = complete marked marked_tree (
+  marked_document,
+  (marked_characters, marked_lawful, refl),
+  (omega arith, (omega arith, omega arith, tt)),
+  ((marked_explained, tt), marked_means),
+)
 
 -- ---- bytes that nothing continues
 

@@ -1,5 +1,6 @@
 -- The machine over raw bytes: it counts them, follows their UTF-8, and makes each line end one.
-use Rattle.std.proofs.Common.{◌≡◌, ℕ, ◌+◌, ◌<◌, ◌≤◌, ◌==◌, Bool, true, false, cond, ◌&&◌, List, [], ◌∷◌, length, refl, sym, ap, ap₂, ◌∙◌, arith, true≢false}
+use Rattle.std.proofs.Common.{◌≡◌, ℕ, ◌+◌, ◌<◌, ◌≤◌, ◌==◌, Bool, true, false, cond, ◌&&◌, List, [], ◌∷◌, length, refl, sym, ap, ap₂, ◌∙◌}
+use Rattle.std.proofs.Common.{arith, true≢false}
 use Rattle.std.proofs.lemmas.Bool.{lt-ltb, eqb-true}
 use Rattle.ba_xml_reader.proofs.CompleteCharacters.{octets}
 use Rattle.ba_xml_reader.proofs.CompleteSteps.{steps, none, one}
@@ -37,7 +38,8 @@ abbrev pub scanned : State → Octet → Bool → Scan
 scanned s o returned = record { state = s; octet = o; returned = returned }
 
 -- the state behind one byte, and the line ends of the others
-pub line_step : (s : State) (returned : Bool) (b : ℕ) (bs : List ℕ) → steps s (lines returned (b ∷ bs)) ≡ steps (unless_returned s returned b) (lines (b == 13) bs)
+pub line_step : (s : State) (returned : Bool) (b : ℕ) (bs : List ℕ)
+    → steps s (lines returned (b ∷ bs)) ≡ steps (unless_returned s returned b) (lines (b == 13) bs)
 line_step s returned b bs = by (returned && b == 10) (b == 13) refl refl
   where
     feed : (x y : Bool) → (x && y) ≡ true → y ≡ true
@@ -48,7 +50,8 @@ line_step s returned b bs = by (returned && b == 10) (b == 13) refl refl
     no_return e = ap (λ x. x == 13) (eqb-true b 10 (feed returned (b == 10) e))
 
     by : (x y : Bool) → (returned && b == 10) ≡ x → (b == 13) ≡ y
-        → steps s (cond x (lines false bs) (cond y (10 ∷ lines true bs) (b ∷ lines false bs))) ≡ steps (cond x s (state_after s (cond y 10 b))) (lines y bs)
+        → steps s (cond x (lines false bs) (cond y (10 ∷ lines true bs) (b ∷ lines false bs)))
+        ≡ steps (cond x s (state_after s (cond y 10 b))) (lines y bs)
     by true true e f = absurd (true≢false (sym f ∙ no_return e))
     by true false e f = refl
     by false true e f = one s (state_after s 10) 10 (lines true bs) refl
@@ -56,8 +59,10 @@ line_step s returned b bs = by (returned && b == 10) (b == 13) refl refl
 
 module _ (outer : List Level) (here : Level) (m : Mode) (last : Octet) where
   abbrev To : List ℕ → Type 0
-  To bs = (s : State) (o : Octet) (returned : Bool) (taken : ℕ) → octets (decoding.At o) bs ≡ decoding.At last → steps s (lines returned bs) ≡ At outer here m → taken + length bs ≤ 262144
-      → (r : Bool) × (run (reading.Going (scanned s o returned) taken) bs ≡ reading.Going (scanned (At outer here m) last r) (taken + length bs))
+  To bs = (s : State) (o : Octet) (returned : Bool) (taken : ℕ) → octets (decoding.At o) bs ≡ decoding.At last
+      → steps s (lines returned bs) ≡ At outer here m → taken + length bs ≤ 262144
+      → (r : Bool) × (run (reading.Going (scanned s o returned) taken) bs
+      ≡ reading.Going (scanned (At outer here m) last r) (taken + length bs))
 
   same_octet : (o : Octet) → decoding.At o ≡ decoding.At last → o ≡ last
   same_octet o e = cc
@@ -66,21 +71,25 @@ module _ (outer : List Level) (here : Level) (m : Mode) (last : Octet) where
   at_end s o returned taken e f l = (
     returned,
     run_none (reading.Going (scanned s o returned) taken)
-        ∙ ap₂ (λ x y. reading.Going (scanned x y returned) taken) (sym (none s) ∙ f) (same_octet o e) ∙ ap (λ n. reading.Going (scanned (At outer here m) last returned) n) all,
+        ∙ ap₂ (λ x y. reading.Going (scanned x y returned) taken) (sym (none s) ∙ f) (same_octet o e)
+        ∙ ap (λ n. reading.Going (scanned (At outer here m) last returned) n) all,
   )
     where
       all : taken ≡ taken + 0
       all = omega arith
 
-  going_on : (b : ℕ) (bs : List ℕ) → To bs → (s : State) (o : Octet) (taken : ℕ) → octets (decoding.At o) bs ≡ decoding.At last → steps s (lines (b == 13) bs) ≡ At outer here m
-      → taken + length (b ∷ bs) ≤ 262144 → (r : Bool) × (run (counted taken (turned_by s o b)) bs ≡ reading.Going (scanned (At outer here m) last r) (taken + length (b ∷ bs)))
+  going_on : (b : ℕ) (bs : List ℕ) → To bs → (s : State) (o : Octet) (taken : ℕ) → octets (decoding.At o) bs ≡ decoding.At last
+      → steps s (lines (b == 13) bs) ≡ At outer here m
+      → taken + length (b ∷ bs) ≤ 262144 → (r : Bool)
+      × (run (counted taken (turned_by s o b)) bs ≡ reading.Going (scanned (At outer here m) last r) (taken + length (b ∷ bs)))
   going_on b bs ih (Refused x) o taken e f l = absurd (clash (sym (stays x (lines (b == 13) bs)) ∙ f))
     where
       clash : Refused x ≡ At outer here m → ⊥
       clash e = cc
   going_on b bs ih (At outer' here' m') o taken e f l = (
     rest.0,
-    ap (λ t. run (cond t (reading.Going (scanned (At outer' here' m') o (b == 13)) (taken + 1)) (reading.Refused Size taken)) bs) (lt-ltb taken 262144 below) ∙ rest.1
+    ap (λ t. run (cond t (reading.Going (scanned (At outer' here' m') o (b == 13)) (taken + 1)) (reading.Refused Size taken)) bs)
+        (lt-ltb taken 262144 below) ∙ rest.1
         ∙ ap (λ n. reading.Going (scanned (At outer here m) last rest.0) n) same_count,
   )
     where
@@ -93,12 +102,15 @@ module _ (outer : List Level) (here : Level) (m : Mode) (last : Octet) where
       same_count : (taken + 1) + length bs ≡ taken + length (b ∷ bs)
       same_count = omega arith
 
-      rest : (r : Bool) × (run (reading.Going (scanned (At outer' here' m') o (b == 13)) (taken + 1)) bs ≡ reading.Going (scanned (At outer here m) last r) ((taken + 1) + length bs))
+      rest : (r : Bool) × (run (reading.Going (scanned (At outer' here' m') o (b == 13)) (taken + 1)) bs
+          ≡ reading.Going (scanned (At outer here m) last r) ((taken + 1) + length bs))
       rest = ih (At outer' here' m') o (b == 13) (taken + 1) e f fewer
 
-  by_octet : (b : ℕ) (bs : List ℕ) → To bs → (s : State) (o : Octet) (returned : Bool) (taken : ℕ) (d : Decoding) → octet_after o b ≡ d → octets d bs ≡ decoding.At last
+  by_octet : (b : ℕ) (bs : List ℕ) → To bs → (s : State) (o : Octet) (returned : Bool) (taken : ℕ) (d : Decoding) → octet_after o b ≡ d
+      → octets d bs ≡ decoding.At last
       → steps s (lines returned (b ∷ bs)) ≡ At outer here m → taken + length (b ∷ bs) ≤ 262144
-      → (r : Bool) × (run (counted taken (turned_from (scanned s o returned) b d)) bs ≡ reading.Going (scanned (At outer here m) last r) (taken + length (b ∷ bs)))
+      → (r : Bool) × (run (counted taken (turned_from (scanned s o returned) b d)) bs
+      ≡ reading.Going (scanned (At outer here m) last r) (taken + length (b ∷ bs)))
   by_octet b bs ih s o returned taken (decoding.Broken x) d e f l = absurd (clash (sym (broken bs) ∙ e))
     where
       broken : (bs : List ℕ) → octets (decoding.Broken x) bs ≡ decoding.Broken x
@@ -107,7 +119,8 @@ module _ (outer : List Level) (here : Level) (m : Mode) (last : Octet) where
 
       clash : decoding.Broken x ≡ decoding.At last → ⊥
       clash e = cc
-  by_octet b bs ih s o returned taken (decoding.At next) d e f l = going_on b bs ih (unless_returned s returned b) next taken e (sym (line_step s returned b bs) ∙ f) l
+  by_octet b bs ih s o returned taken (decoding.At next) d e f l =
+      going_on b bs ih (unless_returned s returned b) next taken e (sym (line_step s returned b bs) ∙ f) l
 
   -- where the states lead so, the reading does
   pub to : (bs : List ℕ) → To bs

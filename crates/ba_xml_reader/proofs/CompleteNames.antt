@@ -1,5 +1,6 @@
 -- The machine over names.
-use Rattle.std.proofs.Common.{◌≡◌, ℕ, ◌<◌, ◌≤◌, Bool, true, false, cond, ◌||◌, ◌&&◌, ◌==◌, nat_le, ◌⊎◌, inl, inr, ⊎_elim, List, [], ◌∷◌, ◌++◌, refl, sym, ap, ◌∙◌, subst, append_assoc, append-nil, arith, le-ltb, eq-eqb, true≢false, lt_irrefl}
+use Rattle.std.proofs.Common.{◌≡◌, ℕ, ◌<◌, ◌≤◌, Bool, true, false, cond, ◌||◌, ◌&&◌, ◌==◌, nat_le, ◌⊎◌, inl, inr, ⊎_elim, List, [], ◌∷◌}
+use Rattle.std.proofs.Common.{◌++◌, refl, sym, ap, ◌∙◌, subst, append_assoc, append-nil, arith, le-ltb, eq-eqb, true≢false, lt_irrefl}
 use Rattle.std.proofs.lemmas.Bool.{lt-ltb, leb-true, eqb-true, ne_eqb}
 use Rattle.std.specs.Char.{is_ascii_alphabetic, is_ascii_digit}
 use Rattle.std.specs.Int.{is_in_range}
@@ -44,7 +45,8 @@ Printed b = (44 < b) × (b < 128)
 
 letter_printed : (b : ℕ) → is_first_letter b ≡ true → Printed b
 unfolding Printed Between
-letter_printed b e = ⊎_elim (λ h. ⊎_elim (λ g. upper (in_range 65 90 b g)) (λ g. lower (in_range 97 122 b g)) (either (is_in_range 65 90 b) (is_in_range 97 122 b) h)) (λ h. line (eqb-true b 95 h)) (either (is_ascii_alphabetic b) (b == 95) e)
+letter_printed b e = ⊎_elim (λ h. ⊎_elim (λ g. upper (in_range 65 90 b g)) (λ g. lower (in_range 97 122 b g))
+    (either (is_in_range 65 90 b) (is_in_range 97 122 b) h)) (λ h. line (eqb-true b 95 h)) (either (is_ascii_alphabetic b) (b == 95) e)
   where
     upper : (65 ≤ b) × (b ≤ 90) → (44 < b) × (b < 128)
     upper h = (omega (arith, h), omega (arith, h))
@@ -92,7 +94,9 @@ digit_kind b e = by (is_first_letter b) refl
 
 name_kind : (b : ℕ) → is_name_letter b ≡ true → Kinds b
 unfolding Kinds
-name_kind b e = ⊎_elim (λ h. inl (letter_kind b h)) (λ h. ⊎_elim (digit_kind b) (λ g. inr (inr (subst (λ x. class_of x ≡ class.Hyphen) (sym (eqb-true b 45 g)) hyphen_kind))) (either (is_digit_or_dot b) (b == 45) h))
+name_kind b e = ⊎_elim (λ h. inl (letter_kind b h))
+    (λ h. ⊎_elim (digit_kind b) (λ g. inr (inr (subst (λ x. class_of x ≡ class.Hyphen) (sym (eqb-true b 45 g)) hyphen_kind)))
+    (either (is_digit_or_dot b) (b == 45) h))
     (either (is_first_letter b) (is_digit_or_dot b || b == 45) e)
 
 -- ---- names
@@ -104,7 +108,8 @@ unlettered_on : (prefix local : List ℕ) (b : ℕ) → Begun local → unletter
 unlettered_on prefix [] b g = absurd g
 unlettered_on prefix (x ∷ xs) b g = refl
 
-grown_on : (prefix local : List ℕ) (b : ℕ) → Begun local → Kinds b → grown (raw prefix local) b (class_of b) ≡ On (raw prefix (local ++ b ∷ []))
+grown_on : (prefix local : List ℕ) (b : ℕ) → Begun local → Kinds b
+    → grown (raw prefix local) b (class_of b) ≡ On (raw prefix (local ++ b ∷ []))
 unfolding Kinds
 grown_on prefix local b g (inl e) = ap (λ k. grown (raw prefix local) b k) e
 grown_on prefix local b g (inr (inl e)) = ap (λ k. grown (raw prefix local) b k) e ∙ unlettered_on prefix local b g
@@ -119,29 +124,35 @@ unfolding class_of mark_of
 colon_kind = refl
 
 module _ (outer : List Level) (here : Level) (m : RawName → Mode)
-    (on : (name next : RawName) (b : ℕ) → grown name b (class_of b) ≡ On next → state_after (At outer here (m name)) b ≡ At outer here (m next)) where
+    (on : (name next : RawName) (b : ℕ) → grown name b (class_of b) ≡ On next
+    → state_after (At outer here (m name)) b ≡ At outer here (m next)) where
   letters : (prefix local bs rest : List ℕ) → Begun local → Each is_name_letter bs
       → steps (At outer here (m (raw prefix local))) (bs ++ rest) ≡ steps (At outer here (m (raw prefix (local ++ bs)))) rest
   letters prefix local [] rest g e = ap (λ l. steps (At outer here (m (raw prefix l))) rest) (sym (append-nil local))
   letters prefix local (b ∷ bs) rest g e =
-      one (At outer here (m (raw prefix local))) (At outer here (m (raw prefix (local ++ b ∷ [])))) b (bs ++ rest) (on (raw prefix local) (raw prefix (local ++ b ∷ [])) b (grown_on prefix local b g (name_kind b e.0)))
+      one (At outer here (m (raw prefix local))) (At outer here (m (raw prefix (local ++ b ∷ [])))) b (bs ++ rest)
+      (on (raw prefix local) (raw prefix (local ++ b ∷ [])) b (grown_on prefix local b g (name_kind b e.0)))
       ∙ letters prefix (local ++ b ∷ []) bs rest (more_begun local b) e.1
       ∙ ap (λ l. steps (At outer here (m (raw prefix l))) rest) (append_assoc local (b ∷ []) bs)
 
   plain : (s : State) (prefix : List ℕ) → ((b : ℕ) → is_first_letter b ≡ true → state_after s b ≡ At outer here (m (raw prefix (b ∷ []))))
       → (local rest : List ℕ) → IsPlainName local → steps s (local ++ rest) ≡ steps (At outer here (m (raw prefix local))) rest
   plain s prefix first [] rest n = absurd n
-  plain s prefix first (b ∷ bs) rest n = one s (At outer here (m (raw prefix (b ∷ [])))) b (bs ++ rest) (first b n.0) ∙ letters prefix (b ∷ []) bs rest tt n.1
+  plain s prefix first (b ∷ bs) rest n = one s (At outer here (m (raw prefix (b ∷ [])))) b (bs ++ rest) (first b n.0)
+      ∙ letters prefix (b ∷ []) bs rest tt n.1
 
-  colon : (p : ℕ) (ps rest : List ℕ) → steps (At outer here (m (raw [] (p ∷ ps)))) (58 ∷ rest) ≡ steps (At outer here (m (raw (p ∷ ps) []))) rest
+  colon : (p : ℕ) (ps rest : List ℕ) → steps (At outer here (m (raw [] (p ∷ ps)))) (58 ∷ rest)
+      ≡ steps (At outer here (m (raw (p ∷ ps) []))) rest
   colon p ps rest = one (At outer here (m (raw [] (p ∷ ps)))) (At outer here (m (raw (p ∷ ps) []))) 58 rest
       (on (raw [] (p ∷ ps)) (raw (p ∷ ps) []) 58 (ap (λ k. grown (raw [] (p ∷ ps)) 58 k) colon_kind))
 
-  local_first : (prefix : List ℕ) (b : ℕ) → is_first_letter b ≡ true → state_after (At outer here (m (raw prefix []))) b ≡ At outer here (m (raw prefix (b ∷ [])))
+  local_first : (prefix : List ℕ) (b : ℕ) → is_first_letter b ≡ true
+      → state_after (At outer here (m (raw prefix []))) b ≡ At outer here (m (raw prefix (b ∷ [])))
   local_first prefix b e = on (raw prefix []) (raw prefix (b ∷ [])) b (ap (λ k. grown (raw prefix []) b k) (letter_kind b e))
 
   pub parts_run : (s : State) → ((b : ℕ) → is_first_letter b ≡ true → state_after s b ≡ At outer here (m (one_letter b)))
-      → (prefix local rest : List ℕ) → IsPrefix prefix → IsPlainName local → steps s (written_prefix prefix (local ++ rest)) ≡ steps (At outer here (m (raw prefix local))) rest
+      → (prefix local rest : List ℕ) → IsPrefix prefix → IsPlainName local
+      → steps s (written_prefix prefix (local ++ rest)) ≡ steps (At outer here (m (raw prefix local))) rest
   parts_run s first [] local rest p n = plain s [] first local rest n
   parts_run s first (x ∷ xs) local rest p n = plain s [] first (x ∷ xs) (58 ∷ (local ++ rest)) p ∙ colon x xs (local ++ rest)
       ∙ plain (At outer here (m (raw (x ∷ xs) []))) (x ∷ xs) (local_first (x ∷ xs)) local rest n
@@ -161,8 +172,10 @@ met_last x = rw (same x) refl
 met_more : (x y : ℕ) (more : List ℕ) → met (x ∷ y ∷ more) x ≡ meeting.On (y ∷ more)
 met_more x y more = rw (same x) refl
 
-end_runs : (outer : List Level) (here : Level) (x : ℕ) (xs rest : List ℕ) → steps (At outer here (mode.EndName (x ∷ xs))) (x ∷ (xs ++ rest)) ≡ steps (At outer here mode.EndSpace) rest
-end_runs outer here x [] rest = go outer here (mode.EndName (x ∷ [])) x (class_of x) rest refl ∙ ap (λ g. steps (end_name_by outer here g) rest) (met_last x)
+end_runs : (outer : List Level) (here : Level) (x : ℕ) (xs rest : List ℕ)
+    → steps (At outer here (mode.EndName (x ∷ xs))) (x ∷ (xs ++ rest)) ≡ steps (At outer here mode.EndSpace) rest
+end_runs outer here x [] rest = go outer here (mode.EndName (x ∷ [])) x (class_of x) rest refl
+    ∙ ap (λ g. steps (end_name_by outer here g) rest) (met_last x)
 end_runs outer here x (y ∷ ys) rest = go outer here (mode.EndName (x ∷ y ∷ ys)) x (class_of x) (y ∷ (ys ++ rest)) refl
     ∙ ap (λ g. steps (end_name_by outer here g) (y ∷ (ys ++ rest))) (met_more x y ys) ∙ end_runs outer here y ys rest
 
@@ -170,7 +183,10 @@ pub end_name_runs : (outer : List Level) (here : Level) (name : RawName) (rest :
     → steps (At outer here (mode.EndName (spelled name))) (written_name name rest) ≡ steps (At outer here mode.EndSpace) rest
 end_name_runs outer here name rest n = by name.prefix name.local n.1
   where
-    by : (prefix local : List ℕ) → IsPlainName local → steps (At outer here (mode.EndName (spelled (raw prefix local)))) (written_prefix prefix (local ++ rest)) ≡ steps (At outer here mode.EndSpace) rest
+    by : (prefix local : List ℕ) → IsPlainName local
+        → steps (At outer here (mode.EndName (spelled (raw prefix local)))) (written_prefix prefix (local ++ rest))
+        ≡ steps (At outer here mode.EndSpace) rest
     by [] [] n = absurd n
     by [] (b ∷ bs) n = end_runs outer here b bs rest
-    by (p ∷ ps) local n = ap (λ l. steps (At outer here (mode.EndName (p ∷ (ps ++ 58 ∷ local)))) (p ∷ l)) (sym (append_assoc ps (58 ∷ local) rest)) ∙ end_runs outer here p (ps ++ 58 ∷ local) rest
+    by (p ∷ ps) local n = ap (λ l. steps (At outer here (mode.EndName (p ∷ (ps ++ 58 ∷ local)))) (p ∷ l))
+        (sym (append_assoc ps (58 ∷ local) rest)) ∙ end_runs outer here p (ps ++ 58 ∷ local) rest

@@ -1,5 +1,6 @@
 -- The machine over references: the five names, and numbers.
-use Rattle.std.proofs.Common.{◌≡◌, ℕ, ◌+◌, ◌*◌, ◌<◌, ◌≤◌, Bool, true, false, ◌&&◌, ◌||◌, ◌==◌, ◌⊎◌, inl, inr, ⊎_elim, List, [], ◌∷◌, ◌++◌, refl, sym, ap, ◌∙◌, subst, true≢false, arith, le_trans, le_refl}
+use Rattle.std.proofs.Common.{◌≡◌, ℕ, ◌+◌, ◌*◌, ◌<◌, ◌≤◌, Bool, true, false, ◌&&◌, ◌||◌, ◌==◌, ◌⊎◌, inl, inr, ⊎_elim, List, [], ◌∷◌, ◌++◌}
+use Rattle.std.proofs.Common.{refl, sym, ap, ◌∙◌, subst, true≢false, arith, le_trans, le_refl}
 use Rattle.std.proofs.Common.{le-ltb, nat_le}
 use Rattle.std.proofs.lemmas.Bool.{lt-ltb, leb-true, eqb-true, ne_eqb}
 use Rattle.std.specs.Char.{is_digit, digit_value}
@@ -36,7 +37,8 @@ module _ (s : Partial → State) (t : ℕ → State)
   Runs bs = (p : Partial) (c : ℕ) (rest : List ℕ) → refers (On p) bs ≡ Meant c → steps (s p) (bs ++ rest) ≡ steps (t c) rest
 
   by : (p : Partial) (b : ℕ) (bs : List ℕ) (c : ℕ) (rest : List ℕ) (r : Referred) → referred p b ≡ r → refers r bs ≡ Meant c
-      → ((q : Partial) → refers (On q) bs ≡ Meant c → steps (s q) (bs ++ rest) ≡ steps (t c) rest) → steps (s p) (b ∷ (bs ++ rest)) ≡ steps (t c) rest
+      → ((q : Partial) → refers (On q) bs ≡ Meant c → steps (s q) (bs ++ rest) ≡ steps (t c) rest)
+      → steps (s p) (b ∷ (bs ++ rest)) ≡ steps (t c) rest
   by p b bs c rest Wrong e m ih = absurd (clash (sym (wrong bs) ∙ m))
     where
       clash : Wrong ≡ Meant c → ⊥
@@ -48,7 +50,8 @@ module _ (s : Partial → State) (t : ℕ → State)
       clash e = cc
   by p b bs c rest (On q) e m ih = one (s p) (s q) b (bs ++ rest) (on p q b e) ∙ ih q m
 
-  pub reference_runs : (bs : List ℕ) (p : Partial) (c : ℕ) (rest : List ℕ) → refers (On p) bs ≡ Meant c → steps (s p) (bs ++ rest) ≡ steps (t c) rest
+  pub reference_runs : (bs : List ℕ) (p : Partial) (c : ℕ) (rest : List ℕ) → refers (On p) bs ≡ Meant c
+      → steps (s p) (bs ++ rest) ≡ steps (t c) rest
   reference_runs [] p c rest m = absurd (clash m)
     where
       clash : On p ≡ Meant c → ⊥
@@ -74,7 +77,8 @@ Legal c = (is_legal c ≡ true) × (c ≤ 0x10_FFFF)
 
 low_legal : (c : ℕ) → ((c == 9 || c == 10) || c == 13) ≡ true → Legal c
 unfolding Legal
-low_legal c e = ⊎_elim (λ h. ⊎_elim (λ g. at 9 g (refl, arith_9)) (λ g. at 10 g (refl, arith_10)) (either (c == 9) (c == 10) h)) (λ h. at 13 h (refl, arith_13)) (either (c == 9 || c == 10) (c == 13) e)
+low_legal c e = ⊎_elim (λ h. ⊎_elim (λ g. at 9 g (refl, arith_9)) (λ g. at 10 g (refl, arith_10)) (either (c == 9) (c == 10) h))
+    (λ h. at 13 h (refl, arith_13)) (either (c == 9 || c == 10) (c == 13) e)
   where
     at : (n : ℕ) → (c == n) ≡ true → (is_legal n ≡ true) × (n ≤ 0x10_FFFF) → (is_legal c ≡ true) × (c ≤ 0x10_FFFF)
     at n g l = subst (λ x. (is_legal x ≡ true) × (x ≤ 0x10_FFFF)) (sym (eqb-true c n g)) l
@@ -94,33 +98,56 @@ first_legal c l h = (rw (le-ltb c 32 l, lt-ltb c 0xD800 (omega arith)) refl, ome
 
 second_legal : (c : ℕ) → 0xE000 ≤ c → c ≤ 0xFFFD → Legal c
 unfolding Legal
-second_legal c l h = (rw (le-ltb c 32 (omega arith), le-ltb c 0xD800 (omega arith), le-ltb c 0xE000 l, lt-ltb c 0xFFFE (omega arith)) refl, omega arith)
+second_legal c l h = (
+  rw (
+    le-ltb c 32 (omega arith),
+    le-ltb c 0xD800 (omega arith),
+    le-ltb c 0xE000 l,
+    lt-ltb c 0xFFFE (omega arith),
+  ) refl,
+  omega arith,
+)
 
 third_legal : (c : ℕ) → 0x10000 ≤ c → c ≤ 0x10FFFF → Legal c
 unfolding Legal
-third_legal c l h = (rw (le-ltb c 32 (omega arith), le-ltb c 0xD800 (omega arith), le-ltb c 0xE000 (omega arith), le-ltb c 0xFFFE (omega arith), le-ltb c 0x1_0000 l, lt-ltb c 0x11_0000 (omega arith)) refl, h)
+third_legal c l h = (
+  rw (
+    le-ltb c 32 (omega arith),
+    le-ltb c 0xD800 (omega arith),
+    le-ltb c 0xE000 (omega arith),
+    le-ltb c 0xFFFE (omega arith),
+    le-ltb c 0x1_0000 l,
+    lt-ltb c 0x11_0000 (omega arith),
+  ) refl,
+  h,
+)
 
 pub legal : (c : ℕ) → characters.is_legal c ≡ true → (is_legal c ≡ true) × (c ≤ 0x10_FFFF)
 unfolding Legal
 legal c e = ⊎_elim (low_legal c) (λ g. ⊎_elim (λ w. first_legal c (within 0x20 0xD7FF c w).0 (within 0x20 0xD7FF c w).1)
-    (λ v. ⊎_elim (λ w. second_legal c (within 0xE000 0xFFFD c w).0 (within 0xE000 0xFFFD c w).1) (λ w. third_legal c (within 0x10000 0x10FFFF c w).0 (within 0x10000 0x10FFFF c w).1)
+    (λ v. ⊎_elim (λ w. second_legal c (within 0xE000 0xFFFD c w).0 (within 0xE000 0xFFFD c w).1)
+    (λ w. third_legal c (within 0x10000 0x10FFFF c w).0 (within 0x10000 0x10FFFF c w).1)
     (either (characters.is_within 0xE000 0xFFFD c) (characters.is_within 0x10000 0x10FFFF c) v))
     (either (characters.is_within 0x20 0xD7FF c) (characters.is_within 0xE000 0xFFFD c || characters.is_within 0x10000 0x10FFFF c) g))
-    (either ((c == 0x9 || c == 0xA) || c == 0xD) (characters.is_within 0x20 0xD7FF c || (characters.is_within 0xE000 0xFFFD c || characters.is_within 0x10000 0x10FFFF c)) e)
+    (either ((c == 0x9 || c == 0xA) || c == 0xD)
+    (characters.is_within 0x20 0xD7FF c || (characters.is_within 0xE000 0xFFFD c || characters.is_within 0x10000 0x10FFFF c)) e)
 
 -- the four ranges of characters
-pub legal_ranges : (c : ℕ) → characters.is_legal c ≡ true → (c < 32) ⊎ (((32 ≤ c) × (c ≤ 0xD7FF)) ⊎ (((0xE000 ≤ c) × (c ≤ 0xFFFD)) ⊎ ((0x10000 ≤ c) × (c ≤ 0x10FFFF))))
+pub legal_ranges : (c : ℕ) → characters.is_legal c ≡ true
+    → (c < 32) ⊎ (((32 ≤ c) × (c ≤ 0xD7FF)) ⊎ (((0xE000 ≤ c) × (c ≤ 0xFFFD)) ⊎ ((0x10000 ≤ c) × (c ≤ 0x10FFFF))))
 legal_ranges c e = ⊎_elim (λ h. inl (low h)) (λ g. ⊎_elim (λ w. inr (inl (within 0x20 0xD7FF c w)))
     (λ v. ⊎_elim (λ w. inr (inr (inl (within 0xE000 0xFFFD c w)))) (λ w. inr (inr (inr (within 0x10000 0x10FFFF c w))))
     (either (characters.is_within 0xE000 0xFFFD c) (characters.is_within 0x10000 0x10FFFF c) v))
     (either (characters.is_within 0x20 0xD7FF c) (characters.is_within 0xE000 0xFFFD c || characters.is_within 0x10000 0x10FFFF c) g))
-    (either ((c == 0x9 || c == 0xA) || c == 0xD) (characters.is_within 0x20 0xD7FF c || (characters.is_within 0xE000 0xFFFD c || characters.is_within 0x10000 0x10FFFF c)) e)
+    (either ((c == 0x9 || c == 0xA) || c == 0xD)
+    (characters.is_within 0x20 0xD7FF c || (characters.is_within 0xE000 0xFFFD c || characters.is_within 0x10000 0x10FFFF c)) e)
   where
     below : (n : ℕ) → n < 32 → (c == n) ≡ true → c < 32
     below n l g = subst (λ x. x < 32) (sym (eqb-true c n g)) l
 
     low : ((c == 0x9 || c == 0xA) || c == 0xD) ≡ true → c < 32
-    low h = ⊎_elim (λ k. ⊎_elim (below 9 (omega arith)) (below 10 (omega arith)) (either (c == 9) (c == 10) k)) (below 13 (omega arith)) (either (c == 9 || c == 10) (c == 13) h)
+    low h = ⊎_elim (λ k. ⊎_elim (below 9 (omega arith)) (below 10 (omega arith)) (either (c == 9) (c == 10) k)) (below 13 (omega arith))
+        (either (c == 9 || c == 10) (c == 13) h)
 
 grows_one : (radix : Radix) (v d : ℕ) → v ≤ v * base_of radix + d
 grows_one Decimal v d = omega arith
@@ -150,7 +177,8 @@ x_mark : referred Hash 120 ≡ On HashX
 unfolding referred
 x_mark = refl
 
-digit_on : (radix : Radix) (v d : ℕ) → is_digit d (base_of radix) ≡ true → v * base_of radix + digit_value d ≤ 0x10_FFFF → with_digit radix v d ≡ On (Number radix (v * base_of radix + digit_value d))
+digit_on : (radix : Radix) (v d : ℕ) → is_digit d (base_of radix) ≡ true → v * base_of radix + digit_value d ≤ 0x10_FFFF
+    → with_digit radix v d ≡ On (Number radix (v * base_of radix + digit_value d))
 digit_on radix v d e h = rw (e, le-ltb 0x10_FFFF (v * base_of radix + digit_value d) h) refl
 
 other_than : (n d : ℕ) (base : ℕ) → is_digit n base ≡ false → is_digit d base ≡ true → (d == n) ≡ false
@@ -160,18 +188,23 @@ no_semicolon : (radix : Radix) → is_digit 59 (base_of radix) ≡ false
 no_semicolon Decimal = refl
 no_semicolon Hexadecimal = refl
 
-number_follows : (radix : Radix) (v : ℕ) (ds : List ℕ) → Each (λ d. is_digit d (base_of radix)) ds → characters.is_legal (number_behind (base_of radix) v ds) ≡ true
+number_follows : (radix : Radix) (v : ℕ) (ds : List ℕ) → Each (λ d. is_digit d (base_of radix)) ds
+    → characters.is_legal (number_behind (base_of radix) v ds) ≡ true
     → refers (On (Number radix v)) (ds ++ 59 ∷ []) ≡ Meant (number_behind (base_of radix) v ds)
 number_follows radix v [] e l = number_step radix v 59 ∙ (rw ((legal v l).0) refl)
-number_follows radix v (d ∷ ds) e l = ap (λ r. refers r (ds ++ 59 ∷ [])) (number_step radix v d ∙ digit_step) ∙ number_follows radix (v * base_of radix + digit_value d) ds e.1 l
+number_follows radix v (d ∷ ds) e l = ap (λ r. refers r (ds ++ 59 ∷ [])) (number_step radix v d ∙ digit_step)
+    ∙ number_follows radix (v * base_of radix + digit_value d) ds e.1 l
   where
     digit_step : number_on radix v d ≡ On (Number radix (v * base_of radix + digit_value d))
     digit_step = rw (other_than 59 d (base_of radix) (no_semicolon radix) e.0)
-        (digit_on radix v d e.0 (le_trans (grows radix (v * base_of radix + digit_value d) ds) (legal (number_behind (base_of radix) v (d ∷ ds)) l).1))
+        (digit_on radix v d e.0 (le_trans (grows radix (v * base_of radix + digit_value d) ds)
+        (legal (number_behind (base_of radix) v (d ∷ ds)) l).1))
 
-first_digit : (radix : Radix) (d : ℕ) (ds : List ℕ) → is_digit d (base_of radix) ≡ true → characters.is_legal (number_behind (base_of radix) 0 (d ∷ ds)) ≡ true
+first_digit : (radix : Radix) (d : ℕ) (ds : List ℕ) → is_digit d (base_of radix) ≡ true
+    → characters.is_legal (number_behind (base_of radix) 0 (d ∷ ds)) ≡ true
     → with_digit radix 0 d ≡ On (Number radix (0 * base_of radix + digit_value d))
-first_digit radix d ds e l = digit_on radix 0 d e (le_trans (grows radix (0 * base_of radix + digit_value d) ds) (legal (number_behind (base_of radix) 0 (d ∷ ds)) l).1)
+first_digit radix d ds e l = digit_on radix 0 d e
+    (le_trans (grows radix (0 * base_of radix + digit_value d) ds) (legal (number_behind (base_of radix) 0 (d ∷ ds)) l).1)
 
 decimal_follows : (ds : List ℕ) → IsNumber 10 ds → refers (On Nothing) (35 ∷ (ds ++ 59 ∷ [])) ≡ Meant (number_behind 10 0 ds)
 decimal_follows [] n = absurd n.0

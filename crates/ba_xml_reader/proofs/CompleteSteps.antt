@@ -25,7 +25,8 @@ unfolding steps
 one s t b bs e = ap (λ u. steps u bs) e
 
 -- a step by the byte's kind
-pub by_kind : (outer : List Level) (here : Level) (m : Mode) (b : ℕ) (k : Class) → class_of b ≡ k → state_after (At outer here m) b ≡ act_by outer here m b k
+pub by_kind : (outer : List Level) (here : Level) (m : Mode) (b : ℕ) (k : Class) → class_of b ≡ k
+    → state_after (At outer here m) b ≡ act_by outer here m b k
 unfolding state_after
 by_kind outer here m b k e = ap (λ c. act_by outer here m b c) e
 
@@ -64,14 +65,19 @@ is b c e = eqb→eq b c (subst T (sym e) tt)
 
 marks : (b : ℕ) → IsByte (mark_of b) b
 unfolding mark_of
-marks b = if_mark b (b == 60) class.Less _ (λ e. is b 60 e) (if_mark b (b == 62) class.Greater _ (λ e. is b 62 e) (if_mark b (b == 38) class.Ampersand _ (λ e. is b 38 e)
-    (if_mark b (b == 47) class.Slash _ (λ e. tt) (if_mark b (b == 33) class.Exclamation _ (λ e. tt) (if_mark b (b == 63) class.Question _ (λ e. tt)
-    (if_mark b (b == 45) class.Hyphen _ (λ e. is b 45 e) (if_mark b (b == 91) class.OpenBracket _ (λ e. tt) (if_mark b (b == 93) class.CloseBracket _ (λ e. is b 93 e)
-    (if_mark b (b == 61) class.EqualsSign _ (λ e. tt) (if_mark b (b == 39) class.Apostrophe _ (λ e. tt) (if_mark b (b == 34) class.DoubleQuote _ (λ e. tt)
+marks b = if_mark b (b == 60) class.Less _ (λ e. is b 60 e)
+    (if_mark b (b == 62) class.Greater _ (λ e. is b 62 e) (if_mark b (b == 38) class.Ampersand _ (λ e. is b 38 e)
+    (if_mark b (b == 47) class.Slash _ (λ e. tt)
+    (if_mark b (b == 33) class.Exclamation _ (λ e. tt) (if_mark b (b == 63) class.Question _ (λ e. tt)
+    (if_mark b (b == 45) class.Hyphen _ (λ e. is b 45 e)
+    (if_mark b (b == 91) class.OpenBracket _ (λ e. tt) (if_mark b (b == 93) class.CloseBracket _ (λ e. is b 93 e)
+    (if_mark b (b == 61) class.EqualsSign _ (λ e. tt)
+    (if_mark b (b == 39) class.Apostrophe _ (λ e. tt) (if_mark b (b == 34) class.DoubleQuote _ (λ e. tt)
     (if_mark b (b == 58) class.Colon class.Plain (λ e. tt) tt))))))))))))
 
 by_space : (b : ℕ) (space control low letter digit : Bool) → is_space b ≡ space → nat_lt b 32 ≡ control
-    → IsByte (cond space class.Space (cond control class.Control (cond low (cond letter class.Letter (cond digit class.Digit (mark_of b))) class.High))) b
+    → IsByte (cond space class.Space (cond control class.Control
+    (cond low (cond letter class.Letter (cond digit class.Digit (mark_of b))) class.High))) b
 by_space b true control low letter digit s c = s
 by_space b false true low letter digit s c = (s, c)
 by_space b false false true true digit s c = tt

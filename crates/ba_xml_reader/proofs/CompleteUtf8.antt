@@ -1,5 +1,6 @@
 -- Of UTF-8 the machine never says that it is none.
-use Rattle.std.proofs.Common.{◌≡◌, ℕ, ◌<◌, ◌≤◌, nat_lt, ◌==◌, Bool, true, false, ◌&&◌, ◌⊎◌, inl, inr, List, [], ◌∷◌, ◌++◌, IsUtf8, encode_utf8_all, refl, sym, ap, ◌∙◌, subst, arith, true≢false}
+use Rattle.std.proofs.Common.{◌≡◌, ℕ, ◌<◌, ◌≤◌, nat_lt, ◌==◌, Bool, true, false, ◌&&◌, ◌⊎◌, inl, inr, List, [], ◌∷◌, ◌++◌, IsUtf8}
+use Rattle.std.proofs.Common.{encode_utf8_all, refl, sym, ap, ◌∙◌, subst, arith, true≢false}
 use Rattle.std.proofs.lemmas.Bool.{ltb-true, ltb-false, eqb-true, eqb-false}
 use Rattle.std.specs.Char.{encode_utf8}
 use Rattle.std.proofs.Math.Utf8.{scalar, scalar_cases}
@@ -24,7 +25,8 @@ unfolding octet_after lead encode_utf8
 last_one = inr refl
 
 high : (c : ℕ) → 0xE000 ≤ c → c < 0x110000 → (x y : Bool) → nat_lt c 0xFFFE ≡ x → nat_lt c 0x10000 ≡ y → Passed (encode_utf8 c)
-high c l h true y p q = inl (by_length c (nat_lt c 0x80) (nat_lt c 0x800) refl refl (below (ltb-true c 0xFFFE p)) (inr (l, few (ltb-true c 0xFFFE p))))
+high c l h true y p q = inl (by_length c (nat_lt c 0x80) (nat_lt c 0x800) refl refl (below (ltb-true c 0xFFFE p))
+    (inr (l, few (ltb-true c 0xFFFE p))))
   where
     below : c < 0xFFFE → c < 0x10000
     below k = omega (arith, k)
@@ -38,7 +40,8 @@ high c l h false true p q = by (c == 0xFFFE) refl
 
     by : (t : Bool) → (c == 0xFFFE) ≡ t → Passed (encode_utf8 c)
     by true e = subst (λ x. Passed (encode_utf8 x)) (sym (eqb-true c 0xFFFE e)) last_two
-    by false e = subst (λ x. Passed (encode_utf8 x)) (sym (other (eqb-false c 0xFFFE e) (ltb-false c 0xFFFE p) (ltb-true c 0x10000 q))) last_one
+    by false e = subst (λ x. Passed (encode_utf8 x))
+        (sym (other (eqb-false c 0xFFFE e) (ltb-false c 0xFFFE p) (ltb-true c 0x10000 q))) last_one
 high c l h false false p q = inl (of_four c (ltb-false c 0x10000 q) (omega (arith, h)))
 
 scalar_passed : (c : ℕ) → (c < 55296) ⊎ ((57344 ≤ c) × (c < 1114112)) → Passed (encode_utf8 c)
@@ -62,7 +65,8 @@ both false y e = absurd (true≢false (sym e))
 
 scalars_passed : (cs : List ℕ) → all_scalars cs ≡ true → Passed (encode_utf8_all cs)
 scalars_passed [] e = inl refl
-scalars_passed (c ∷ cs) e = joined (encode_utf8 c) (encode_utf8_all cs) (scalar_passed c (scalar_cases c (both (scalar c) (all_scalars cs) e).0)) (scalars_passed cs (both (scalar c) (all_scalars cs) e).1)
+scalars_passed (c ∷ cs) e = joined (encode_utf8 c) (encode_utf8_all cs)
+    (scalar_passed c (scalar_cases c (both (scalar c) (all_scalars cs) e).0)) (scalars_passed cs (both (scalar c) (all_scalars cs) e).1)
 
 pub utf8_passed : (bytes : List ℕ) → IsUtf8 bytes → octets (At Between) bytes ≡ Broken NotUtf8 → ⊥
 utf8_passed bytes u e = by (subst Passed u.1.1 (scalars_passed u.0 u.1.0))

@@ -1,5 +1,6 @@
 -- Where the machine refuses bytes by what is written, no bytes continue them.
-use Rattle.std.proofs.Common.{◌≡◌, ℕ, zero, suc, ◌+◌, ◌≤◌, Bool, true, false, cond, ◌==◌, nat_lt, ◌⊎◌, inl, inr, Option, Some, None, Result, Ok, Err, List, [], ◌∷◌, ◌++◌, take, refl, sym, ap, ◌∙◌, subst, arith}
+use Rattle.std.proofs.Common.{◌≡◌, ℕ, zero, suc, ◌+◌, ◌≤◌, Bool, true, false, cond, ◌==◌, nat_lt, ◌⊎◌, inl, inr, Option, Some, None, Result}
+use Rattle.std.proofs.Common.{Ok, Err, List, [], ◌∷◌, ◌++◌, take, refl, sym, ap, ◌∙◌, subst, arith}
 use Rattle.ba_tree.specs.declared.trees.Tree.{Tree}
 use Rattle.ba_xml_reader.proofs.CompleteCharacters.{octets}
 use Rattle.ba_xml_reader.proofs.Complete.{complete, legal_octets}
@@ -7,7 +8,8 @@ use Rattle.ba_xml_reader.proofs.CompleteDocuments.{outside}
 use Rattle.ba_xml_reader.proofs.CompleteFronts.{IsLimit, Limited, document_or}
 use Rattle.ba_xml_reader.proofs.CompleteLayers.{stays, run_none, run_one, line_step, scanned}
 use Rattle.ba_xml_reader.proofs.CompleteSteps.{steps}
-use Rattle.ba_xml_reader.specs.inside.Machine.{document, run, start, unless_returned, turned, turned_by, turned_from, counted, reason_at, reason_past, reading_after, answer_by, answer_of, finished, xml_answer}
+use Rattle.ba_xml_reader.specs.inside.Machine.{document, run, start, unless_returned, turned, turned_by, turned_from, counted, reason_at}
+use Rattle.ba_xml_reader.specs.inside.Machine.{reason_past, reading_after, answer_by, answer_of, finished, xml_answer}
 use Rattle.ba_xml_words.specs.inside.Octets.{octet_after}
 use Rattle.ba_tree.specs.declared.trees.Content.{Content}
 use Rattle.ba_xml_names.specs.Namespaces.{first_scope}
@@ -61,7 +63,8 @@ place_in (reading.Going scan n) = n
 
 -- a refusal is refused here, or the reading goes on
 abbrev Counted : ℕ → Turn → Type 0
-Counted taken t = ((r : Reason) × (counted taken t ≡ reading.Refused r taken)) ⊎ ((scan : Scan) × (counted taken t ≡ reading.Going scan (taken + 1)))
+Counted taken t = ((r : Reason) × (counted taken t ≡ reading.Refused r taken))
+    ⊎ ((scan : Scan) × (counted taken t ≡ reading.Going scan (taken + 1)))
 
 counted_either : (taken : ℕ) (t : Turn) → Counted taken t
 counted_either taken (turn.Refused r) = inl (reason_at taken r, refl)
@@ -96,29 +99,38 @@ limit_at taken r l = by (nat_lt taken 262144)
     by false = limit_past r l
 
 abbrev Spared : List ℕ → List ℕ → Type 0
-Spared more front = (s : State) (o : Octet) (returned : Bool) (taken : ℕ) (last : Octet) → octets (decoding.At o) (front ++ more) ≡ decoding.At last → Fair s (lines returned (front ++ more))
+Spared more front = (s : State) (o : Octet) (returned : Bool) (taken : ℕ) (last : Octet)
+    → octets (decoding.At o) (front ++ more) ≡ decoding.At last → Fair s (lines returned (front ++ more))
     → (r : Reason) (n : ℕ) → run (reading.Going (scanned s o returned) taken) front ≡ reading.Refused r n → IsLimit r
 
 spared_end : (more : List ℕ) → Spared more []
-spared_end more s o returned taken last e f r n g = absurd (going_refused (scanned s o returned) taken n r (sym (run_none (reading.Going (scanned s o returned) taken)) ∙ g))
+spared_end more s o returned taken last e f r n g =
+    absurd (going_refused (scanned s o returned) taken n r (sym (run_none (reading.Going (scanned s o returned) taken)) ∙ g))
 
 same_reason : (r : Reason) (taken : ℕ) (bs : List ℕ) (q : Reason) (n : ℕ) → run (reading.Refused r taken) bs ≡ reading.Refused q n → r ≡ q
 same_reason r taken bs q n e = ap reason_in (sym (run_refused r taken bs) ∙ e)
 
-by_state : (more : List ℕ) (b : ℕ) (bs : List ℕ) → Spared more bs → (s : State) (o : Octet) (taken : ℕ) (last : Octet) → octets (decoding.At o) (bs ++ more) ≡ decoding.At last
-    → Fair s (lines (b == 13) (bs ++ more)) → (r : Reason) (n : ℕ) → run (counted taken (turned_by s o b)) bs ≡ reading.Refused r n → IsLimit r
+by_state : (more : List ℕ) (b : ℕ) (bs : List ℕ) → Spared more bs → (s : State) (o : Octet) (taken : ℕ) (last : Octet)
+    → octets (decoding.At o) (bs ++ more) ≡ decoding.At last
+    → Fair s (lines (b == 13) (bs ++ more)) → (r : Reason) (n : ℕ)
+    → run (counted taken (turned_by s o b)) bs ≡ reading.Refused r n → IsLimit r
 by_state more b bs ih (state.Refused x) o taken last e f r n g =
     subst IsLimit (same_reason (reason_at taken x) taken bs r n g) (limit_at taken x (f x (stays x (lines (b == 13) (bs ++ more)))))
 by_state more b bs ih (state.At outer here m) o taken last e f r n g = by (nat_lt taken 262144) refl
   where
     by : (q : Bool) → nat_lt taken 262144 ≡ q → IsLimit r
     by true q = ih (state.At outer here m) o (b == 13) (taken + 1) last e f r n
-        (ap (λ t. run (cond t (reading.Going (scanned (state.At outer here m) o (b == 13)) (taken + 1)) (reading.Refused reason.Size taken)) bs) (sym q) ∙ g)
+        (ap (λ t. run (cond t (reading.Going (scanned (state.At outer here m) o (b == 13)) (taken + 1)) (reading.Refused reason.Size taken))
+        bs) (sym q) ∙ g)
     by false q = subst IsLimit (same_reason reason.Size taken bs r n
-        (ap (λ t. run (cond t (reading.Going (scanned (state.At outer here m) o (b == 13)) (taken + 1)) (reading.Refused reason.Size taken)) bs) (sym q) ∙ g)) tt
+        (ap (λ t. run (cond t (reading.Going (scanned (state.At outer here m) o (b == 13)) (taken + 1)) (reading.Refused reason.Size taken))
+        bs) (sym q) ∙ g)) tt
 
-by_octet : (more : List ℕ) (b : ℕ) (bs : List ℕ) → Spared more bs → (s : State) (o : Octet) (returned : Bool) (taken : ℕ) (last : Octet) (d : Decoding) → octet_after o b ≡ d → octets d (bs ++ more) ≡ decoding.At last
-    → Fair s (lines returned (b ∷ (bs ++ more))) → (r : Reason) (n : ℕ) → run (counted taken (turned_from (scanned s o returned) b d)) bs ≡ reading.Refused r n → IsLimit r
+by_octet : (more : List ℕ) (b : ℕ) (bs : List ℕ) → Spared more bs
+    → (s : State) (o : Octet) (returned : Bool) (taken : ℕ) (last : Octet) (d : Decoding) → octet_after o b ≡ d
+    → octets d (bs ++ more) ≡ decoding.At last
+    → Fair s (lines returned (b ∷ (bs ++ more))) → (r : Reason) (n : ℕ)
+    → run (counted taken (turned_from (scanned s o returned) b d)) bs ≡ reading.Refused r n → IsLimit r
 by_octet more b bs ih s o returned taken last (decoding.Broken x) d e f r n g = absurd (clash (sym (broken (bs ++ more)) ∙ e))
   where
     broken : (bs : List ℕ) → octets (decoding.Broken x) bs ≡ decoding.Broken x
@@ -127,11 +139,13 @@ by_octet more b bs ih s o returned taken last (decoding.Broken x) d e f r n g = 
 
     clash : decoding.Broken x ≡ decoding.At last → ⊥
     clash e = cc
-by_octet more b bs ih s o returned taken last (decoding.At p) d e f r n g = by_state more b bs ih (unless_returned s returned b) p taken last e (λ x h. f x (line_step s returned b (bs ++ more) ∙ h)) r n g
+by_octet more b bs ih s o returned taken last (decoding.At p) d e f r n g =
+    by_state more b bs ih (unless_returned s returned b) p taken last e (λ x h. f x (line_step s returned b (bs ++ more) ∙ h)) r n g
 
 spared : (more front : List ℕ) → Spared more front
 spared more [] = spared_end more
-spared more (b ∷ bs) = λ s o returned taken last e f r n g. by_octet more b bs (spared more bs) s o returned taken last (octet_after o b) refl e f r n (sym (run_one (scanned s o returned) taken b bs) ∙ g)
+spared more (b ∷ bs) = λ s o returned taken last e f r n g. by_octet more b bs (spared more bs) s o returned taken last (octet_after o b)
+    refl e f r n (sym (run_one (scanned s o returned) taken b bs) ∙ g)
 
 at_refused : (content : List Content) (r : Reason) → outside content ≡ state.Refused r → ⊥
 at_refused content r e = cc
@@ -139,23 +153,30 @@ at_refused content r e = cc
 state_reason : (x r : Reason) → state.Refused x ≡ state.Refused r → x ≡ r
 state_reason x r e = cc
 
-fair_by : (bs : List ℕ) (content : List Content) → (steps (state.At [] document mode.Begin) bs ≡ outside content) ⊎ Limited (state.At [] document mode.Begin) bs → Fair (state.At [] document mode.Begin) bs
+fair_by : (bs : List ℕ) (content : List Content)
+    → (steps (state.At [] document mode.Begin) bs ≡ outside content) ⊎ Limited (state.At [] document mode.Begin) bs
+    → Fair (state.At [] document mode.Begin) bs
 fair_by bs content (inl g) r e = absurd (at_refused content r (sym g ∙ e))
 fair_by bs content (inr l) r e = subst IsLimit (state_reason l.0 r (sym l.1 ∙ e)) l.2
 
 fair : (bytes : List ℕ) → IsWellFormed bytes → Fair (state.At [] document mode.Begin) (lines false bytes)
-fair bytes w = subst (Fair (state.At [] document mode.Begin)) (sym w.1.2) (fair_by (written_document w.0) (meaning first_scope w.0.root) (document_or w.0 w.1.1))
+fair bytes w = subst (Fair (state.At [] document mode.Begin)) (sym w.1.2)
+    (fair_by (written_document w.0) (meaning first_scope w.0.root) (document_or w.0 w.1.1))
 
-pub front_spared : (front : List ℕ) → CanContinue front → (r : Reason) (n : ℕ) → run (reading.Going start 0) front ≡ reading.Refused r n → IsLimit r
-front_spared front c r n g = spared c.0 front (state.At [] document mode.Begin) Between false 0 Between (legal_octets (front ++ c.0) c.1.1.0) (fair (front ++ c.0) c.1) r n g
+pub front_spared : (front : List ℕ) → CanContinue front → (r : Reason) (n : ℕ)
+    → run (reading.Going start 0) front ≡ reading.Refused r n → IsLimit r
+front_spared front c r n g = spared c.0 front (state.At [] document mode.Begin) Between false 0 Between
+    (legal_octets (front ++ c.0) c.1.1.0) (fair (front ++ c.0) c.1) r n g
 
 -- ---- the front up to and with the byte at the place
 
 least : (bs : List ℕ) (scan : Scan) (taken : ℕ) (r : Reason) (n : ℕ) → run (reading.Going scan taken) bs ≡ reading.Refused r n → taken ≤ n
 least [] scan taken r n e = absurd (going_refused scan taken n r (sym (run_none (reading.Going scan taken)) ∙ e))
-least (b ∷ bs) scan taken r n e = by (counted_either taken (turned scan b)) (sym (run_one scan taken b bs) ∙ e) (λ scan. least bs scan (taken + 1) r n)
+least (b ∷ bs) scan taken r n e = by (counted_either taken (turned scan b)) (sym (run_one scan taken b bs) ∙ e)
+    (λ scan. least bs scan (taken + 1) r n)
   where
-    by : Counted taken (turned scan b) → run (counted taken (turned scan b)) bs ≡ reading.Refused r n → ((scan : Scan) → run (reading.Going scan (taken + 1)) bs ≡ reading.Refused r n → taken + 1 ≤ n) → taken ≤ n
+    by : Counted taken (turned scan b) → run (counted taken (turned scan b)) bs ≡ reading.Refused r n
+        → ((scan : Scan) → run (reading.Going scan (taken + 1)) bs ≡ reading.Refused r n → taken + 1 ≤ n) → taken ≤ n
     by (inl c) g ih = of_same (ap place_in (sym (run_refused c.0 taken bs) ∙ ap (λ x. run x bs) (sym c.1) ∙ g))
       where
         of_same : taken ≡ n → taken ≤ n
@@ -166,17 +187,21 @@ least (b ∷ bs) scan taken r n e = by (counted_either taken (turned scan b)) (s
         of_more l = omega (arith, l)
 
 abbrev Cuts : List ℕ → Type 0
-Cuts bs = (scan : Scan) (taken : ℕ) (r : Reason) (n : ℕ) → run (reading.Going scan taken) bs ≡ reading.Refused r n → (k : ℕ) → n + 1 ≡ taken + k → run (reading.Going scan taken) (take k bs) ≡ reading.Refused r n
+Cuts bs = (scan : Scan) (taken : ℕ) (r : Reason) (n : ℕ) → run (reading.Going scan taken) bs ≡ reading.Refused r n → (k : ℕ)
+    → n + 1 ≡ taken + k → run (reading.Going scan taken) (take k bs) ≡ reading.Refused r n
 
 cut_one : (b : ℕ) (bs : List ℕ) → Cuts bs → Cuts (b ∷ bs)
 cut_one b bs ih scan taken r n e zero s = absurd (none (least (b ∷ bs) scan taken r n e))
   where
     none : taken ≤ n → ⊥
     none l = omega (arith, l, s)
-cut_one b bs ih scan taken r n e (suc k) s = run_one scan taken b (take k bs) ∙ by (counted_either taken (turned scan b)) (sym (run_one scan taken b bs) ∙ e)
+cut_one b bs ih scan taken r n e (suc k) s =
+    run_one scan taken b (take k bs) ∙ by (counted_either taken (turned scan b)) (sym (run_one scan taken b bs) ∙ e)
   where
-    by : Counted taken (turned scan b) → run (counted taken (turned scan b)) bs ≡ reading.Refused r n → run (counted taken (turned scan b)) (take k bs) ≡ reading.Refused r n
-    by (inl c) g = ap (λ x. run x (take k bs)) c.1 ∙ run_refused c.0 taken (take k bs) ∙ sym (run_refused c.0 taken bs) ∙ ap (λ x. run x bs) (sym c.1) ∙ g
+    by : Counted taken (turned scan b) → run (counted taken (turned scan b)) bs ≡ reading.Refused r n
+        → run (counted taken (turned scan b)) (take k bs) ≡ reading.Refused r n
+    by (inl c) g = ap (λ x. run x (take k bs)) c.1 ∙ run_refused c.0 taken (take k bs) ∙ sym (run_refused c.0 taken bs)
+        ∙ ap (λ x. run x bs) (sym c.1) ∙ g
     by (inr c) g = ap (λ x. run x (take k bs)) c.1 ∙ ih c.0 (taken + 1) r n (ap (λ x. run x bs) (sym c.1) ∙ g) k counts
       where
         counts : n + 1 ≡ (taken + 1) + k
@@ -210,7 +235,8 @@ not_both reason.Attributes w l = w
 abbrev Told : Reading → Reason → ℕ → Type 0
 Told x r n = answer_of x ≡ Err (fault.At r n)
 
-same_fault : (x r : Reason) (m n : ℕ) → (let a : Result Tree XmlFault = Err (fault.At x m) in a) ≡ Err (fault.At r n) → reading.Refused x m ≡ reading.Refused r n
+same_fault : (x r : Reason) (m n : ℕ) → (let a : Result Tree XmlFault = Err (fault.At x m) in a) ≡ Err (fault.At r n)
+    → reading.Refused x m ≡ reading.Refused r n
 same_fault x r m n e = cc
 
 fault_reason : (x r : Reason) (m n : ℕ) → (let a : Result Tree XmlFault = Err (fault.At x m) in a) ≡ Err (fault.At r n) → x ≡ r
@@ -229,6 +255,7 @@ refused_by (reading.Going scan taken) r n w e = absurd (by_tree taken (finished 
 
 -- where the answer is that the bytes aren't UTF-8 or break the productions, no bytes continue the front up to and with
 -- the byte at the place
-pub dead : (bytes : List ℕ) (r : Reason) (n : ℕ) → IsOfWriting r → xml_answer bytes ≡ Err (fault.At r n) → CanContinue (take (n + 1) bytes) → ⊥
+pub dead : (bytes : List ℕ) (r : Reason) (n : ℕ) → IsOfWriting r → xml_answer bytes ≡ Err (fault.At r n)
+    → CanContinue (take (n + 1) bytes) → ⊥
 dead bytes r n w e c = not_both r w (front_spared (take (n + 1) bytes) c r n
     (cut bytes start 0 r n (refused_by (run (reading.Going start 0) bytes) r n w e) (n + 1) (omega arith)))

@@ -1,5 +1,6 @@
 -- What every answer keeps: places within the bytes, the limit, and refusals that stay.
-use Rattle.std.proofs.Common.{◌≡◌, ◌≢◌, ℕ, ◌+◌, ◌<◌, ◌≤◌, Bool, true, false, cond, nat_lt, List, [], ◌∷◌, length, Option, Some, None, Result, Ok, Err, refl, ap, sym, subst, ◌∙◌, arith}
+use Rattle.std.proofs.Common.{◌≡◌, ◌≢◌, ℕ, ◌+◌, ◌<◌, ◌≤◌, Bool, true, false, cond, nat_lt, List, [], ◌∷◌, length, Option, Some, None}
+use Rattle.std.proofs.Common.{Result, Ok, Err, refl, ap, sym, subst, ◌∙◌, arith}
 use borrow.Author.Tests.{ltb-true}
 use Rattle.ba_tree.specs.declared.trees.Tree.{Tree}
 use Rattle.ba_xml_reader.specs.inside.Machine.{run, reading_after, counted, turned, reason_at, answer_of, answer_by, finished}
@@ -94,4 +95,5 @@ stays_by (Some tree) taken reason place more is other = absurd (cc)
 pub stays : (r : Reading) (more : List ℕ) (reason : Reason) (place : ℕ) → answer_of r ≡ Err (fault.At reason place)
     → reason ≢ Truncated → answer_of (run r more) ≡ Err (fault.At reason place)
 stays (Refused told_reason told_place) more reason place is other = ap answer_of (run_refused told_reason told_place more) ∙ is
-stays (Going scan taken) more reason place is other = stays_by (finished scan) taken reason place (answer_of (run (Going scan taken) more)) is other
+stays (Going scan taken) more reason place is other =
+    stays_by (finished scan) taken reason place (answer_of (run (Going scan taken) more)) is other

@@ -1,5 +1,6 @@
 -- Bytes that are put on all at once are those that the machine puts on one by one.
-use Rattle.std.proofs.Common.{◌≡◌, ℕ, zero, suc, take, drop, get_or, ◌-◌, ◌+◌, ◌<◌, ◌≤◌, Bool, true, false, cond, not, ◌&&◌, ◌||◌, ◌==◌, nat_lt}
+use Rattle.std.proofs.Common.{◌≡◌, ℕ, zero, suc, take, drop, get_or, ◌-◌, ◌+◌, ◌<◌, ◌≤◌, Bool, true, false, cond, not, ◌&&◌, ◌||◌, ◌==◌}
+use Rattle.std.proofs.Common.{nat_lt}
 use Rattle.std.proofs.Common.{List, [], ◌∷◌, ◌++◌, length, refl, sym, ap, ◌∙◌, subst, arith, append_assoc, append-nil, true≢false}
 use Rattle.std.specs.List.{list_all}
 use Rattle.std.proofs.lemmas.List.{length-take-le}
@@ -9,7 +10,8 @@ use Rattle.ba_xml_names.specs.inside.Levels.{put}
 use Rattle.ba_xml_reader.specs.inside.Machine.{run, reading_after, counted, turned, turned_by, turned_from, state_after, act_by}
 use Rattle.ba_xml_words.specs.inside.Names.{with_letters}
 use Rattle.ba_xml_words.specs.inside.Octets.{octet_after, lead}
-use Rattle.ba_xml_reader.specs.inside.Spans.{is_plain, is_letter, is_put, is_none, is_run, is_run_in, before_name, puts_inside, with_span, with_span_at, with_span_in}
+use Rattle.ba_xml_reader.specs.inside.Spans.{is_plain, is_letter, is_put, is_none, is_run, is_run_in, before_name, puts_inside, with_span}
+use Rattle.ba_xml_reader.specs.inside.Spans.{with_span_at, with_span_in}
 use Rattle.ba_xml_words.specs.inside.Remaining.{is_front}
 use Rattle.ba_xml_names.specs.inside.Tags.{with_attribute}
 use Rattle.ba_xml_reader.specs.inside.Tags.{value_by, value_more, end_name_by}
@@ -106,7 +108,8 @@ plain_fits : (b : ℕ) → is_plain b ≡ true → fits b ≡ true
 plain_fits b h = given (is_plain b) (fits b) (under either_plain 128 b plain_table (ltb-true b 128 (both _ _ (both _ _ h).0).1)) h
 
 pub letter_fits : (b : ℕ) → is_letter b ≡ true → (is_single (lead b) && not (b == 13)) ≡ true
-letter_fits b h = given (is_letter b) (is_single (lead b) && not (b == 13)) (under either_letter 128 b letter_table (ltb-true b 128 (both _ _ h).0)) h
+letter_fits b h = given (is_letter b) (is_single (lead b) && not (b == 13))
+    (under either_letter 128 b letter_table (ltb-true b 128 (both _ _ h).0)) h
 
 pub no : (x : Bool) → not x ≡ true → x ≡ false
 no true e = absurd (true≢false (sym e))
@@ -157,11 +160,13 @@ value_kind outer here tag a quote b class.Control c = absurd (true≢false (sym 
 value_kind outer here tag a quote b class.Space c = ap (λ x. value_more outer here tag a quote x) (sym (eqb-true b 32 c))
 value_kind outer here tag a quote b k c = refl
 
-value_step : (outer : List Level) (here : Level) (tag : Tag) (a : RawAttribute) (quote b : ℕ) → (b == quote) ≡ false → calm (class_of b) b ≡ true
+value_step : (outer : List Level) (here : Level) (tag : Tag) (a : RawAttribute) (quote b : ℕ) → (b == quote) ≡ false
+    → calm (class_of b) b ≡ true
     → state_after (state.At outer here (mode.Value tag a quote)) b ≡ value_more outer here tag a quote b
 value_step outer here tag a quote b other c =
     by_kind outer here (mode.Value tag a quote) b (class_of b) refl
-    ∙ ap (λ t. cond t (state.At outer here (mode.InTag (with_attribute tag a) false)) (value_by outer here tag a quote b (class_of b))) other
+    ∙ ap (λ t. cond t (state.At outer here (mode.InTag (with_attribute tag a) false))
+    (value_by outer here tag a quote b (class_of b))) other
     ∙ value_kind outer here tag a quote b (class_of b) c
 
 -- what a plain byte is not
@@ -178,7 +183,14 @@ plain_calm b h =
     let more = both (not (b == 13)) _ all.1 in
     let quotes = both (not (b == 34) && not (b == 39)) (calm (class_of b) b) more.1 in
     let apart = both (not (b == 34)) (not (b == 39)) quotes.0 in
-    record { one = all.0; no_return = no (b == 13) more.0; no_double = no (b == 34) apart.0; no_apostrophe = no (b == 39) apart.1; kind = quotes.1 }
+    record {
+      one = all.0;
+      no_return = no (b == 13) more.0;
+      no_double = no (b == 34) apart.0;
+      no_apostrophe =
+          no (b == 39) apart.1;
+      kind = quotes.1;
+    }
 
 -- ---- a run of them
 
@@ -191,7 +203,8 @@ once scan next taken b e h =
 grow : (f : List ℕ → Scan) (p : ℕ → Bool) → ((t : List ℕ) (b : ℕ) → p b ≡ true → turned (f t) b ≡ turn.On (f (t ++ b ∷ [])))
     → (t bs : List ℕ) (taken : ℕ) → list_all p bs ≡ true → taken + length bs ≤ 262144
     → run (Going (f t) taken) bs ≡ Going (f (t ++ bs)) (taken + length bs)
-grow f p step t [] taken a h = run_none (Going (f t) taken) ∙ ap (λ x. Going (f x) taken) (sym (append-nil t)) ∙ ap (λ n. Going (f (t ++ [])) n) same
+grow f p step t [] taken a h = run_none (Going (f t) taken) ∙ ap (λ x. Going (f x) taken) (sym (append-nil t))
+    ∙ ap (λ n. Going (f (t ++ [])) n) same
   where
     same : taken ≡ taken + length {A = ℕ} []
     same = omega arith
@@ -225,14 +238,16 @@ text_runs parent outer here bs taken a h =
         ≡ turn.On (calm_scan (state.At (parent ∷ outer) (record here { text = t ++ b ∷ [] }) (mode.Inside Zero)))
     step t b e =
         let is = plain_calm b e in
-        turn_on (parent ∷ outer) (parent ∷ outer) (record here { text = t }) (record here { text = t ++ b ∷ [] }) (mode.Inside Zero) (mode.Inside Zero) b is.one is.no_return
+        turn_on (parent ∷ outer) (parent ∷ outer) (record here { text = t }) (record here { text = t ++ b ∷ [] }) (mode.Inside Zero)
+        (mode.Inside Zero) b is.one is.no_return
         (text_step parent outer (record here { text = t }) b (class_of b) refl is.kind)
 
 pub value_runs : (outer : List Level) (here : Level) (tag : Tag) (a : RawAttribute) (quote : ℕ) (bs : List ℕ) (taken : ℕ)
     → ((b : ℕ) → IsCalm b → (b == quote) ≡ false) → list_all is_plain bs ≡ true
     → taken + length bs ≤ 262144 → Runs outer here (mode.Value tag a quote) bs taken
 value_runs outer here tag a quote bs taken apart all h =
-    grow (λ t. calm_scan (state.At outer here (mode.Value tag (record { name = a.name; value = t }) quote))) is_plain step a.value bs taken all h
+    grow (λ t. calm_scan (state.At outer here (mode.Value tag (record { name = a.name; value = t }) quote))) is_plain step
+    a.value bs taken all h
   where
     step : (t : List ℕ) (b : ℕ) → is_plain b ≡ true
         → turned (calm_scan (state.At outer here (mode.Value tag (record { name = a.name; value = t }) quote))) b
@@ -246,7 +261,8 @@ value_runs outer here tag a quote bs taken apart all h =
 pub name_runs : (outer : List Level) (here : Level) (m : RawName → Mode) (name : RawName) (bs : List ℕ) (taken : ℕ)
     → ((n : RawName) (b : ℕ) → act_by outer here (m n) b class.Letter ≡ state.At outer here (m (with_letters n (b ∷ []))))
     → list_all is_letter bs ≡ true → taken + length bs ≤ 262144
-    → run (Going (calm_scan (state.At outer here (m name))) taken) bs ≡ Going (calm_scan (state.At outer here (m (with_letters name bs)))) (taken + length bs)
+    → run (Going (calm_scan (state.At outer here (m name))) taken) bs ≡ Going (calm_scan (state.At outer here (m (with_letters name bs))))
+    (taken + length bs)
 name_runs outer here m name bs taken lettered all h =
     grow (λ t. calm_scan (state.At outer here (m (record { prefix = name.prefix; local = t })))) is_letter step name.local bs taken all h
   where
@@ -255,7 +271,8 @@ name_runs outer here m name bs taken lettered all h =
         ≡ turn.On (calm_scan (state.At outer here (m (record { prefix = name.prefix; local = t ++ b ∷ [] }))))
     step t b e =
         let is = both (is_single (lead b)) (not (b == 13)) (letter_fits b e) in
-        turn_on outer outer here here (m (record { prefix = name.prefix; local = t })) (m (record { prefix = name.prefix; local = t ++ b ∷ [] })) b is.0 (no (b == 13) is.1)
+        turn_on outer outer here here (m (record { prefix = name.prefix; local = t }))
+        (m (record { prefix = name.prefix; local = t ++ b ∷ [] })) b is.0 (no (b == 13) is.1)
         (by_kind outer here (m (record { prefix = name.prefix; local = t })) b class.Letter (letter_kind b (both (nat_lt b 128) _ e).1)
         ∙ lettered (record { prefix = name.prefix; local = t }) b)
 
@@ -266,14 +283,16 @@ nothing [] a s = none s
     none s = omega (arith, s)
 nothing (b ∷ bs) a s = true≢false (sym a)
 
-inside_runs : (outer : List Level) (here : Level) (seen : Seen) (bs : List ℕ) (taken : ℕ) → list_all (is_put (puts_inside outer seen)) bs ≡ true
+inside_runs : (outer : List Level) (here : Level) (seen : Seen) (bs : List ℕ) (taken : ℕ)
+    → list_all (is_put (puts_inside outer seen)) bs ≡ true
     → 0 < length bs → taken + length bs ≤ 262144 → Runs outer here (mode.Inside seen) bs taken
 inside_runs [] here seen bs taken a s h = absurd (nothing bs a s)
 inside_runs (parent ∷ outer) here Zero bs taken a s h = text_runs parent outer here bs taken a h
 inside_runs (parent ∷ outer) here One bs taken a s h = absurd (nothing bs a s)
 inside_runs (parent ∷ outer) here Two bs taken a s h = absurd (nothing bs a s)
 
-quoted_runs : (outer : List Level) (here : Level) (tag : Tag) (a : RawAttribute) (quote : ℕ) (bs : List ℕ) (taken : ℕ) (double single : Bool)
+quoted_runs : (outer : List Level) (here : Level) (tag : Tag) (a : RawAttribute) (quote : ℕ) (bs : List ℕ) (taken : ℕ)
+    (double single : Bool)
     → (quote == 34) ≡ double → (quote == 39) ≡ single → list_all (is_put (cond (double || single) puts'.Characters puts'.Nothing)) bs ≡ true
     → 0 < length bs → taken + length bs ≤ 262144 → Runs outer here (mode.Value tag a quote) bs taken
 quoted_runs outer here tag a quote bs taken true single d q all s h =
@@ -288,7 +307,8 @@ end_name_step : (outer : List Level) (here : Level) (x : ℕ) (xs : List ℕ) (b
 end_name_step outer here x [] b e =
     by_kind outer here (mode.EndName (x ∷ [])) b (class_of b) refl ∙ ap (λ t. end_name_by outer here (cond t meeting.Whole meeting.Wrong)) e
 end_name_step outer here x (y ∷ ys) b e =
-    by_kind outer here (mode.EndName (x ∷ y ∷ ys)) b (class_of b) refl ∙ ap (λ t. end_name_by outer here (cond t (meeting.On (y ∷ ys)) meeting.Wrong)) e
+    by_kind outer here (mode.EndName (x ∷ y ∷ ys)) b (class_of b) refl
+    ∙ ap (λ t. end_name_by outer here (cond t (meeting.On (y ∷ ys)) meeting.Wrong)) e
 
 pub front_runs : (outer : List Level) (here : Level) (rest bs : List ℕ) (taken : ℕ) → list_all is_plain bs ≡ true → is_front bs rest ≡ true
     → taken + length bs ≤ 262144
@@ -303,8 +323,10 @@ front_runs outer here rest [] taken a f h =
 front_runs outer here [] (b ∷ bs) taken a f h = absurd (true≢false (sym f))
 front_runs outer here (x ∷ xs) (b ∷ bs) taken a f h =
     run_more (Going (calm_scan (state.At outer here (mode.EndName (x ∷ xs)))) taken) b bs
-    ∙ ap (λ r. run r bs) (once (calm_scan (state.At outer here (mode.EndName (x ∷ xs)))) (calm_scan (state.At outer here (before_name xs))) taken b
-    (turn_on outer outer here here (mode.EndName (x ∷ xs)) (before_name xs) b is.one is.no_return (end_name_step outer here x xs b (both (x == b) (is_front bs xs) f).0)) below)
+    ∙ ap (λ r. run r bs) (once (calm_scan (state.At outer here (mode.EndName (x ∷ xs))))
+    (calm_scan (state.At outer here (before_name xs))) taken b
+    (turn_on outer outer here here (mode.EndName (x ∷ xs)) (before_name xs) b is.one is.no_return
+    (end_name_step outer here x xs b (both (x == b) (is_front bs xs) f).0)) below)
     ∙ front_runs outer here xs bs (taken + 1) (both (is_plain b) (list_all is_plain bs) a).1 (both (x == b) (is_front bs xs) f).1 within
     ∙ ap (λ n. Going (calm_scan (state.At outer here (before_name (drop (length bs) xs)))) n) same
   where
@@ -328,14 +350,17 @@ name_runs_on outer here [] [] taken a s h = absurd (no_less s)
     no_less s = omega (arith, s)
 name_runs_on outer here [] (b ∷ bs) taken a s h = absurd (true≢false (sym (both (list_all is_plain (b ∷ bs)) false a).1))
 name_runs_on outer here (x ∷ xs) bs taken a s h =
-    front_runs outer here (x ∷ xs) bs taken (both (list_all is_plain bs) (is_front bs (x ∷ xs)) a).0 (both (list_all is_plain bs) (is_front bs (x ∷ xs)) a).1 h
+    front_runs outer here (x ∷ xs) bs taken (both (list_all is_plain bs) (is_front bs (x ∷ xs)) a).0
+    (both (list_all is_plain bs) (is_front bs (x ∷ xs)) a).1 h
 
 at_runs : (outer : List Level) (here : Level) (m : Mode) (bs : List ℕ) (taken : ℕ) → is_run_in outer m bs ≡ true
     → 0 < length bs → taken + length bs ≤ 262144 → Runs outer here m bs taken
 at_runs outer here (mode.Inside seen) bs taken a s h = inside_runs outer here seen bs taken a s h
-at_runs outer here (mode.Value tag x quote) bs taken a s h = quoted_runs outer here tag x quote bs taken (quote == 34) (quote == 39) refl refl a s h
+at_runs outer here (mode.Value tag x quote) bs taken a s h =
+    quoted_runs outer here tag x quote bs taken (quote == 34) (quote == 39) refl refl a s h
 at_runs outer here (mode.TagName name) bs taken a s h = name_runs outer here (λ n. mode.TagName n) name bs taken (λ n b. refl) a h
-at_runs outer here (mode.AttributeName tag name) bs taken a s h = name_runs outer here (λ n. mode.AttributeName tag n) name bs taken (λ n b. refl) a h
+at_runs outer here (mode.AttributeName tag name) bs taken a s h =
+    name_runs outer here (λ n. mode.AttributeName tag n) name bs taken (λ n b. refl) a h
 at_runs outer here (mode.EndName rest) bs taken a s h = name_runs_on outer here rest bs taken a s h
 at_runs outer here m bs taken a s h = absurd (nothing bs a s)
 

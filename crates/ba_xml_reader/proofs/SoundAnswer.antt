@@ -16,7 +16,8 @@ use Rattle.ba_xml_reader.specs.declared.states.Mode.TheVariants as mode
 
 -- the bytes, their line ends made one, are a document of this tree; they are not too many; and no octet among them is out of place
 abbrev pub IsReadAs : Tree → List ℕ → Type 0
-IsReadAs tree bytes = IsDocumentOf tree (lines false bytes) × (length bytes ≤ 262144) × (last : Octet) × (octets (decoding.At Between) bytes ≡ decoding.At last)
+IsReadAs tree bytes = IsDocumentOf tree (lines false bytes) × (length bytes ≤ 262144) × (last : Octet)
+    × (octets (decoding.At Between) bytes ≡ decoding.At last)
 
 by_answer : (found : Option Tree) (taken : ℕ) (tree : Tree) → answer_by taken found ≡ Ok tree → found ≡ Some tree
 by_answer None taken tree e = absurd (clash e)

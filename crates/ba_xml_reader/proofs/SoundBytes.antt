@@ -1,14 +1,23 @@
 -- Each byte of a document of the grammar is one of a character, and the last one is below 80.
-use Rattle.std.proofs.Common.{◌≡◌, ℕ, ◌<◌, ◌==◌, nat_lt, Bool, true, false, not, ◌||◌, ◌⊎◌, inl, inr, List, [], ◌∷◌, ◌++◌, map, codes, refl, sym, ap, subst, arith}
+use Rattle.std.proofs.Common.{◌≡◌, ℕ, ◌<◌, ◌==◌, nat_lt, Bool, true, false, not, ◌||◌, ◌⊎◌, inl, inr, List, [], ◌∷◌, ◌++◌, map, codes, refl}
+use Rattle.std.proofs.Common.{sym, ap, subst, arith}
 use Rattle.std.proofs.lemmas.Bool.{ltb-true, eqb-true, false≢true, and_parts, or_cases, agree_below, agree_below_at}
 use Rattle.std.specs.Char.{is_digit, to_ascii_lowercase}
 use Rattle.std.specs.List.{list_all}
 use Rattle.ba_xml_words.specs.Classes.{is_space, is_first_letter}
-use Rattle.ba_xml_grammar.specs.Grammar.{Value, value_end, value_character, value_reference, Pair, Start, Pieces, nothing, character, reference, section, comment, empty, element, Misc, misc_end, misc_space, misc_comment, Saying, Encoding, no_encoding, encoding, Standalone, no_standalone, standalone, Head, no_head, head, Document}
-use Rattle.ba_xml_grammar.specs.Grammar.{written_value, written_pair, written_pairs, written_tag, written_start, written_end, written_comment, written_section, written, written_misc, written_saying, written_encoding, yes_or_no, attribute, written_standalone, written_heading, written_mark, written_document}
-use Rattle.ba_xml_grammar.specs.Grammar.{IsValue, IsPair, ArePairs, IsStart, IsComment, IsSection, Allowed, IsMisc, IsRoot, IsSaying, IsEncoding, IsStandalone, IsHeading, IsDocument}
-use Rattle.ba_xml_grammar.specs.GrammarWords.{Each, Begun, IsWhite, is_character, is_name_letter, IsPlainName, IsPrefix, IsName, written_prefix, written_name}
-use Rattle.ba_xml_grammar.specs.GrammarWords.{Reference, less, greater, ampersand, apostrophe, quotation, decimal, hexadecimal, reference_text, written_reference, IsReference, IsQuote}
+use Rattle.ba_xml_grammar.specs.Grammar.{Value, value_end, value_character, value_reference, Pair, Start, Pieces, nothing, character}
+use Rattle.ba_xml_grammar.specs.Grammar.{reference, section, comment, empty, element, Misc, misc_end, misc_space, misc_comment, Saying}
+use Rattle.ba_xml_grammar.specs.Grammar.{Encoding, no_encoding, encoding, Standalone, no_standalone, standalone, Head, no_head, head}
+use Rattle.ba_xml_grammar.specs.Grammar.{Document}
+use Rattle.ba_xml_grammar.specs.Grammar.{written_value, written_pair, written_pairs, written_tag, written_start, written_end}
+use Rattle.ba_xml_grammar.specs.Grammar.{written_comment, written_section, written, written_misc, written_saying, written_encoding}
+use Rattle.ba_xml_grammar.specs.Grammar.{yes_or_no, attribute, written_standalone, written_heading, written_mark, written_document}
+use Rattle.ba_xml_grammar.specs.Grammar.{IsValue, IsPair, ArePairs, IsStart, IsComment, IsSection, Allowed, IsMisc, IsRoot, IsSaying}
+use Rattle.ba_xml_grammar.specs.Grammar.{IsEncoding, IsStandalone, IsHeading, IsDocument}
+use Rattle.ba_xml_grammar.specs.GrammarWords.{Each, Begun, IsWhite, is_character, is_name_letter, IsPlainName, IsPrefix, IsName}
+use Rattle.ba_xml_grammar.specs.GrammarWords.{written_prefix, written_name}
+use Rattle.ba_xml_grammar.specs.GrammarWords.{Reference, less, greater, ampersand, apostrophe, quotation, decimal, hexadecimal}
+use Rattle.ba_xml_grammar.specs.GrammarWords.{reference_text, written_reference, IsReference, IsQuote}
 use Rattle.ba_xml_words.specs.declared.names.RawName.{RawName}
 use Rattle.ba_xml_words.specs.declared.names.RawAttribute.{RawAttribute}
 
@@ -39,7 +48,8 @@ each (b ∷ bs) rest e f = before b (bs ++ rest) e.0 (each bs rest e.1 f)
 
 -- ---- tests that only bytes of characters pass
 
-passes : (test : ℕ → Bool) → agree_below (λ b. not (test b) || is_character b) (λ b. true) 32 ≡ true → (b : ℕ) → test b ≡ true → is_character b ≡ true
+passes : (test : ℕ → Bool) → agree_below (λ b. not (test b) || is_character b) (λ b. true) 32 ≡ true → (b : ℕ) → test b ≡ true
+    → is_character b ≡ true
 passes test table b e = by (nat_lt b 32) refl
   where
     from : (x : Bool) → x ≡ true → (not x || is_character b) ≡ true → is_character b ≡ true
@@ -98,7 +108,8 @@ text_each (decimal digits) i = (refl, each_by (λ d. is_digit d 10) (passes (λ 
 text_each (hexadecimal digits) i = (refl, (refl, each_by (λ d. is_digit d 16) (passes (λ d. is_digit d 16) refl) digits i.1))
 
 reference_full : (r : Reference) (rest : List ℕ) → IsReference r → Full rest → Full (written_reference r rest)
-reference_full r rest i f = before 38 (reference_text r ++ 59 ∷ rest) refl (each (reference_text r) (59 ∷ rest) (text_each r i) (before 59 rest refl f))
+reference_full r rest i f = before 38 (reference_text r ++ 59 ∷ rest) refl
+    (each (reference_text r) (59 ∷ rest) (text_each r i) (before 59 rest refl f))
 
 value_full : (quote : ℕ) (v : Value) (rest : List ℕ) → IsValue quote v → Full rest → Full (written_value v rest)
 value_full quote value_end rest i f = f
@@ -106,27 +117,35 @@ value_full quote (value_character b more) rest i f = before b (written_value mor
 value_full quote (value_reference r more) rest i f = reference_full r (written_value more rest) i.0 (value_full quote more rest i.1 f)
 
 pair_full : (attributes : List RawAttribute) (a : Pair) (rest : List ℕ) → IsPair attributes a → Full rest → Full (written_pair a rest)
-pair_full attributes a rest i f = each a.gap _ (white a.gap i.0.1) (name_full a.name _ i.1 (each a.left _ (white a.left i.3) (before 61 _ refl (each a.right _ (white a.right i.4)
-    (before a.quote _ (quote_character a.quote i.5) (value_full a.quote a.value _ i.6 (before a.quote rest (quote_character a.quote i.5) f)))))))
+pair_full attributes a rest i f = each a.gap _ (white a.gap i.0.1)
+    (name_full a.name _ i.1 (each a.left _ (white a.left i.3) (before 61 _ refl (each a.right _ (white a.right i.4)
+    (before a.quote _ (quote_character a.quote i.5)
+    (value_full a.quote a.value _ i.6 (before a.quote rest (quote_character a.quote i.5) f)))))))
 
-pairs_full : (pairs : List Pair) (attributes : List RawAttribute) (rest : List ℕ) → ArePairs attributes pairs → Full rest → Full (written_pairs pairs rest)
+pairs_full : (pairs : List Pair) (attributes : List RawAttribute) (rest : List ℕ) → ArePairs attributes pairs → Full rest
+    → Full (written_pairs pairs rest)
 pairs_full [] attributes rest i f = f
-pairs_full (a ∷ more) attributes rest i f = pair_full attributes a (written_pairs more rest) i.0 (pairs_full more (attributes ++ attribute a ∷ []) rest i.1 f)
+pairs_full (a ∷ more) attributes rest i f =
+    pair_full attributes a (written_pairs more rest) i.0 (pairs_full more (attributes ++ attribute a ∷ []) rest i.1 f)
 
 -- ---- content
 
 start_full : (s : Start) (rest : List ℕ) → IsStart s → Full rest → Full (written_start s rest)
 start_full s rest i f = before 60 (written_tag s rest) refl
-    (name_full s.name (written_pairs s.pairs (s.space ++ rest)) i.0 (pairs_full s.pairs [] (s.space ++ rest) i.1 (each s.space rest (white s.space i.2) f)))
+    (name_full s.name (written_pairs s.pairs (s.space ++ rest)) i.0
+    (pairs_full s.pairs [] (s.space ++ rest) i.1 (each s.space rest (white s.space i.2) f)))
 
 end_full : (name : RawName) (space rest : List ℕ) → IsName name → IsWhite space → Fine rest → Full (written_end name space rest)
-end_full name space rest n w f = before 60 _ refl (before 47 _ refl (name_full name (space ++ 62 ∷ rest) n (each space (62 ∷ rest) (white space w) (low 62 rest refl (omega arith) f))))
+end_full name space rest n w f = before 60 _ refl
+    (before 47 _ refl (name_full name (space ++ 62 ∷ rest) n (each space (62 ∷ rest) (white space w) (low 62 rest refl (omega arith) f))))
 
 comment_full : (body rest : List ℕ) → IsComment body → Fine rest → Full (written_comment body rest)
-comment_full body rest i f = each (codes "<!--") _ (word (codes "<!--") refl) (each body _ i.0 (before 45 _ refl (before 45 _ refl (low 62 rest refl (omega arith) f))))
+comment_full body rest i f = each (codes "<!--") _ (word (codes "<!--") refl)
+    (each body _ i.0 (before 45 _ refl (before 45 _ refl (low 62 rest refl (omega arith) f))))
 
 section_full : (body rest : List ℕ) → IsSection body → Fine rest → Full (written_section body rest)
-section_full body rest i f = each (codes "<![CDATA[") _ (word (codes "<![CDATA[") refl) (each body _ i.0 (before 93 _ refl (before 93 _ refl (low 62 rest refl (omega arith) f))))
+section_full body rest i f = each (codes "<![CDATA[") _ (word (codes "<![CDATA[") refl)
+    (each body _ i.0 (before 93 _ refl (before 93 _ refl (low 62 rest refl (omega arith) f))))
 
 empty_full : (s : Start) (rest : List ℕ) → IsStart s → Fine rest → Full (written_start s (47 ∷ 62 ∷ rest))
 empty_full s rest i f = start_full s (47 ∷ 62 ∷ rest) i (before 47 (62 ∷ rest) refl (low 62 rest refl (omega arith) f))
@@ -139,11 +158,13 @@ pieces_full (section body more) rest a f = section_full body (written more rest)
 pieces_full (comment body more) rest a f = comment_full body (written more rest) a.0 (pieces_full more rest a.1 f).1
 pieces_full (empty s more) rest a f = empty_full s (written more rest) a.0 (pieces_full more rest a.1 f).1
 pieces_full (element s inside space more) rest a f =
-    start_full s _ a.0 (before 62 _ refl (pieces_full inside _ a.1 (end_full s.name space (written more rest) a.0.0 a.2 (pieces_full more rest a.3 f).1)))
+    start_full s _ a.0 (before 62 _ refl (pieces_full inside _ a.1
+    (end_full s.name space (written more rest) a.0.0 a.2 (pieces_full more rest a.3 f).1)))
 
 root_full : (p : Pieces) (rest : List ℕ) → IsRoot p → Allowed p → Fine rest → Full (written p rest)
 root_full (empty s nothing) rest i a f = empty_full s rest a.0 f
-root_full (element s inside space nothing) rest i a f = start_full s _ a.0 (before 62 _ refl (pieces_full inside _ a.1 (end_full s.name space rest a.0.0 a.2 f)))
+root_full (element s inside space nothing) rest i a f =
+    start_full s _ a.0 (before 62 _ refl (pieces_full inside _ a.1 (end_full s.name space rest a.0.0 a.2 f)))
 root_full _ rest i a f = absurd i
 
 -- ---- documents
@@ -171,11 +192,14 @@ misc_full (misc_comment body more) rest i f = comment_full body (written_misc mo
 -- nothing may follow
 misc_fine : (m : Misc) (rest : List ℕ) → IsMisc m → Fine rest → Fine (written_misc m rest)
 misc_fine misc_end rest i f = f
-misc_fine (misc_space b more) rest i f = (low b (written_misc more rest) (space_character b i.0) (space_below b i.0) (misc_fine more rest i.1 f)).1
+misc_fine (misc_space b more) rest i f = (low b (written_misc more rest) (space_character b i.0) (space_below b i.0)
+    (misc_fine more rest i.1 f)).1
 misc_fine (misc_comment body more) rest i f = (comment_full body (written_misc more rest) i.0 (misc_fine more rest i.1 f)).1
 
-saying_full : (s : Saying) (name value rest : List ℕ) → IsSaying s → Each is_character name → Each is_character value → Full rest → Full (written_saying s name value rest)
-saying_full s name value rest i n v f = each s.gap _ (white s.gap i.0.1) (each name _ n (each s.left _ (white s.left i.1) (before 61 _ refl (each s.right _ (white s.right i.2)
+saying_full : (s : Saying) (name value rest : List ℕ) → IsSaying s → Each is_character name → Each is_character value → Full rest
+    → Full (written_saying s name value rest)
+saying_full s name value rest i n v f = each s.gap _ (white s.gap i.0.1)
+    (each name _ n (each s.left _ (white s.left i.1) (before 61 _ refl (each s.right _ (white s.right i.2)
     (before s.quote _ (quote_character s.quote i.3) (each value _ v (before s.quote rest (quote_character s.quote i.3) f)))))))
 
 each_lower : (bs : List ℕ) → Each is_character (map to_ascii_lowercase bs) → Each (λ b. is_character (to_ascii_lowercase b)) bs
@@ -188,7 +212,8 @@ encoding_name name e = each_by (λ b. is_character (to_ascii_lowercase b)) (pass
 
 encoding_full : (e : Encoding) (rest : List ℕ) → IsEncoding e → Full rest → Full (written_encoding e rest)
 encoding_full no_encoding rest i f = f
-encoding_full (encoding s name) rest i f = saying_full s (codes "encoding") name rest i.0 (word (codes "encoding") refl) (encoding_name name i.1) f
+encoding_full (encoding s name) rest i f =
+    saying_full s (codes "encoding") name rest i.0 (word (codes "encoding") refl) (encoding_name name i.1) f
 
 answer_each : (answer : Bool) → Each is_character (yes_or_no answer)
 answer_each true = word (codes "yes") refl
@@ -196,7 +221,8 @@ answer_each false = word (codes "no") refl
 
 standalone_full : (s : Standalone) (rest : List ℕ) → IsStandalone s → Full rest → Full (written_standalone s rest)
 standalone_full no_standalone rest i f = f
-standalone_full (standalone s answer) rest i f = saying_full s (codes "standalone") (yes_or_no answer) rest i (word (codes "standalone") refl) (answer_each answer) f
+standalone_full (standalone s answer) rest i f =
+    saying_full s (codes "standalone") (yes_or_no answer) rest i (word (codes "standalone") refl) (answer_each answer) f
 
 heading_full : (h : Head) (rest : List ℕ) → IsHeading h → Full rest → Full (written_heading h rest)
 heading_full no_head rest i f = f
@@ -209,4 +235,5 @@ mark_full true rest f = before 0xEF _ refl (before 0xBB _ refl (before 0xBF rest
 mark_full false rest f = f
 
 pub document_full : (d : Document) → IsDocument d → Full (written_document d)
-document_full d i = mark_full d.mark _ (heading_full d.heading _ i.0 (misc_full d.before _ i.1 (root_full d.root _ i.2 i.3 (misc_fine d.behind [] i.4 tt))))
+document_full d i = mark_full d.mark _ (heading_full d.heading _ i.0
+    (misc_full d.before _ i.1 (root_full d.root _ i.2 i.3 (misc_fine d.behind [] i.4 tt))))

@@ -1,5 +1,6 @@
 -- UTF-8 backward: bytes that the machine passes are those of legal characters.
-use Rattle.std.proofs.Common.{◌≡◌, ℕ, ◌+◌, ◌-◌, ◌*◌, ◌/◌, ◌%◌, ◌<◌, ◌≤◌, ◌==◌, nat_lt, Bool, true, false, cond, ◌⊎◌, inl, inr, List, [], ◌∷◌, ◌++◌, refl, sym, ap, ap₂, ◌∙◌, subst, arith}
+use Rattle.std.proofs.Common.{◌≡◌, ℕ, ◌+◌, ◌-◌, ◌*◌, ◌/◌, ◌%◌, ◌<◌, ◌≤◌, ◌==◌, nat_lt, Bool, true, false, cond, ◌⊎◌, inl, inr, List, []}
+use Rattle.std.proofs.Common.{◌∷◌, ◌++◌, refl, sym, ap, ap₂, ◌∙◌, subst, arith}
 use Rattle.std.proofs.lemmas.Bool.{ltb-true, ltb-false, eqb-true, eqb-false, and_from}
 use Rattle.std.specs.Char.{encode_utf8}
 use Rattle.std.specs.List.{list_all}
@@ -11,7 +12,8 @@ use Rattle.ba_xml_words.specs.inside.Octets.{octet_after, lead, followed, third_
 use Rattle.ba_xml_words.specs.declared.faults.Reason.{Reason}
 use Rattle.ba_xml_words.specs.declared.faults.Reason.TheVariants.{NotUtf8, Syntax}
 use Rattle.ba_xml_words.specs.declared.octets.Octet.{Octet}
-use Rattle.ba_xml_words.specs.declared.octets.Octet.TheVariants.{Between, One, Two, Three, AfterE0, AfterED, AfterEF, AfterEFBF, AfterF0, AfterF4}
+use Rattle.ba_xml_words.specs.declared.octets.Octet.TheVariants.{Between, One, Two, Three, AfterE0, AfterED, AfterEF, AfterEFBF, AfterF0}
+use Rattle.ba_xml_words.specs.declared.octets.Octet.TheVariants.{AfterF4}
 use Rattle.ba_xml_words.specs.declared.octets.Decoding.TheVariants.{At, Broken}
 
 -- ---- one character and those behind it
@@ -36,7 +38,8 @@ two_parts h l c low high small is = (
 
 two : (b x : ℕ) (rest : List ℕ) → 0xC2 ≤ b → b < 0xE0 → 0x80 ≤ x → x ≤ 0xBF → IsOfCharacters rest → IsOfCharacters (b ∷ x ∷ rest)
 two b x rest bl bh xl xh r =
-    let p = two_parts (b - 192) (x - 128) ((b - 192) * 64 + (x - 128)) (omega (arith, bl)) (omega (arith, bh)) (omega (arith, xl, xh)) refl in
+    let p = two_parts (b - 192) (x - 128) ((b - 192) * 64 + (x - 128)) (omega (arith, bl)) (omega (arith, bh))
+    (omega (arith, xl, xh)) refl in
     with_one ((b - 192) * 64 + (x - 128)) (b ∷ x ∷ []) rest p.0 (p.1 ∙ ap₂ (λ y z. y ∷ z ∷ []) first second) r
   where
     first : 192 + (b - 192) ≡ b
@@ -53,8 +56,10 @@ legal_three : (c : ℕ) → 0x800 ≤ c → (c < 0xD800) ⊎ ((0xE000 ≤ c) × 
 legal_three c l (inl h) = legal.first c (omega (arith, l)) (omega (arith, h))
 legal_three c l (inr h) = legal.second c h.0 h.1
 
-three_parts : (h m l c : ℕ) → m < 64 → l < 64 → c ≡ h * 4096 + m * 64 + l → 0x800 ≤ c → c < 0x10000 → encode_utf8 c ≡ (224 + h) ∷ (128 + m) ∷ (128 + l) ∷ []
-three_parts h m l c middle small is low high = encoded_three c low high ∙ ap₂ (λ x (y : List ℕ). (224 + x) ∷ y) upper (ap₂ (λ x y. (128 + x) ∷ (128 + y) ∷ []) mid lower)
+three_parts : (h m l c : ℕ) → m < 64 → l < 64 → c ≡ h * 4096 + m * 64 + l → 0x800 ≤ c → c < 0x10000
+    → encode_utf8 c ≡ (224 + h) ∷ (128 + m) ∷ (128 + l) ∷ []
+three_parts h m l c middle small is low high =
+    encoded_three c low high ∙ ap₂ (λ x (y : List ℕ). (224 + x) ∷ y) upper (ap₂ (λ x y. (128 + x) ∷ (128 + y) ∷ []) mid lower)
   where
     upper : c / 4096 ≡ h
     upper = omega (arith, is, middle, small)
@@ -68,7 +73,8 @@ three_parts h m l c middle small is low high = encoded_three c low high ∙ ap�
 three_of : ℕ → ℕ → ℕ → ℕ
 three_of b x y = (b - 224) * 4096 + (x - 128) * 64 + (y - 128)
 
-three : (b x y : ℕ) (rest : List ℕ) → 0xE0 ≤ b → 0x80 ≤ x → x ≤ 0xBF → 0x80 ≤ y → y ≤ 0xBF → IsThree (three_of b x y) → IsOfCharacters rest → IsOfCharacters (b ∷ x ∷ y ∷ rest)
+three : (b x y : ℕ) (rest : List ℕ) → 0xE0 ≤ b → 0x80 ≤ x → x ≤ 0xBF → 0x80 ≤ y → y ≤ 0xBF → IsThree (three_of b x y) → IsOfCharacters rest
+    → IsOfCharacters (b ∷ x ∷ y ∷ rest)
 unfolding three_of
 three b x y rest bl xl xh yl yh t r =
     with_one (three_of b x y) (b ∷ x ∷ y ∷ []) rest (legal_three (three_of b x y) t.0 t.2)
@@ -87,7 +93,8 @@ three b x y rest bl xl xh yl yh t r =
 four_parts : (h m n l c : ℕ) → m < 64 → n < 64 → l < 64 → c ≡ h * 262144 + m * 4096 + n * 64 + l → 0x10000 ≤ c
     → encode_utf8 c ≡ (240 + h) ∷ (128 + m) ∷ (128 + n) ∷ (128 + l) ∷ []
 four_parts h m n l c middle next small is low =
-    encoded_four c low ∙ ap₂ (λ x (y : List ℕ). (240 + x) ∷ y) upper (ap₂ (λ x (y : List ℕ). (128 + x) ∷ y) mid (ap₂ (λ x y. (128 + x) ∷ (128 + y) ∷ []) after lower))
+    encoded_four c low ∙ ap₂ (λ x (y : List ℕ). (240 + x) ∷ y) upper
+    (ap₂ (λ x (y : List ℕ). (128 + x) ∷ y) mid (ap₂ (λ x y. (128 + x) ∷ (128 + y) ∷ []) after lower))
   where
     upper : c / 262144 ≡ h
     upper = omega (arith, is, middle, next, small)
@@ -104,12 +111,14 @@ four_parts h m n l c middle next small is low =
 four_of : ℕ → ℕ → ℕ → ℕ → ℕ
 four_of b x y z = (b - 240) * 262144 + (x - 128) * 4096 + (y - 128) * 64 + (z - 128)
 
-four : (b x y z : ℕ) (rest : List ℕ) → 0xF0 ≤ b → 0x80 ≤ x → x ≤ 0xBF → 0x80 ≤ y → y ≤ 0xBF → 0x80 ≤ z → z ≤ 0xBF → 0x10000 ≤ four_of b x y z → four_of b x y z ≤ 0x10FFFF
+four : (b x y z : ℕ) (rest : List ℕ) → 0xF0 ≤ b → 0x80 ≤ x → x ≤ 0xBF → 0x80 ≤ y → y ≤ 0xBF → 0x80 ≤ z → z ≤ 0xBF
+    → 0x10000 ≤ four_of b x y z → four_of b x y z ≤ 0x10FFFF
     → IsOfCharacters rest → IsOfCharacters (b ∷ x ∷ y ∷ z ∷ rest)
 unfolding four_of
 four b x y z rest bl xl xh yl yh zl zh low high r =
     with_one (four_of b x y z) (b ∷ x ∷ y ∷ z ∷ []) rest (legal.third (four_of b x y z) low high)
-    (four_parts (b - 240) (x - 128) (y - 128) (z - 128) (four_of b x y z) (omega (arith, xl, xh)) (omega (arith, yl, yh)) (omega (arith, zl, zh)) refl low
+    (four_parts (b - 240) (x - 128) (y - 128) (z - 128) (four_of b x y z) (omega (arith, xl, xh)) (omega (arith, yl, yh))
+    (omega (arith, zl, zh)) refl low
     ∙ ap₂ (λ p (q : List ℕ). p ∷ q) first (ap₂ (λ p (q : List ℕ). p ∷ q) second (ap₂ (λ p q. p ∷ q ∷ []) third fourth))) r
   where
     first : 240 + (b - 240) ≡ b
@@ -153,10 +162,12 @@ pub broken : (r : Reason) (bs : List ℕ) (o : Octet) → octets (Broken r) bs �
 broken r [] o e = cc
 broken r (b ∷ bs) o e = cc
 
-within : (b least most : ℕ) (o : Octet) (bs : List ℕ) → octets (followed b least most o) bs ≡ At Between → (least ≤ b) × (b ≤ most) × (octets (At o) bs ≡ At Between)
+within : (b least most : ℕ) (o : Octet) (bs : List ℕ) → octets (followed b least most o) bs ≡ At Between
+    → (least ≤ b) × (b ≤ most) × (octets (At o) bs ≡ At Between)
 within b least most o bs e = by (nat_lt b least) (nat_lt most b) refl refl e
   where
-    by : (x y : Bool) → nat_lt b least ≡ x → nat_lt most b ≡ y → octets (cond x (Broken NotUtf8) (cond y (Broken NotUtf8) (At o))) bs ≡ At Between
+    by : (x y : Bool) → nat_lt b least ≡ x → nat_lt most b ≡ y
+        → octets (cond x (Broken NotUtf8) (cond y (Broken NotUtf8) (At o))) bs ≡ At Between
         → (least ≤ b) × (b ≤ most) × (octets (At o) bs ≡ At Between)
     by true y p q e = absurd (broken NotUtf8 bs Between e)
     by false true p q e = absurd (broken NotUtf8 bs Between e)
@@ -172,7 +183,8 @@ from_two : (b : ℕ) (bs : List ℕ) → 0xC2 ≤ b → b < 0xE0 → Ends bs →
 from_two b bs l h t = subst (λ x. IsOfCharacters (b ∷ x)) (sym t.2) (two b t.0 t.1 l h t.3 t.4 t.5)
 
 from_three : (b least most : ℕ) (bs : List ℕ) → 0xE0 ≤ b → 0x80 ≤ least → most ≤ 0xBF
-    → ((x y : ℕ) → least ≤ x → x ≤ most → 0x80 ≤ y → y ≤ 0xBF → IsThree (three_of b x y)) → Next least most Ends bs → IsOfCharacters (b ∷ bs)
+    → ((x y : ℕ) → least ≤ x → x ≤ most → 0x80 ≤ y → y ≤ 0xBF → IsThree (three_of b x y)) → Next least most Ends bs
+    → IsOfCharacters (b ∷ bs)
 from_three b least most bs bl low high is t =
     subst (λ x. IsOfCharacters (b ∷ x)) (sym (t.2 ∙ ap (λ x. t.0 ∷ x) t.5.2))
     (three b t.0 t.5.0 t.5.1 bl (lower t.0 t.3) (upper t.0 t.4) t.5.3 t.5.4 (is t.0 t.5.0 t.3 t.4 t.5.3 t.5.4) t.5.5)
@@ -184,7 +196,8 @@ from_three b least most bs bl low high is t =
     upper x h = omega (arith, high, h)
 
 from_four : (b least most : ℕ) (bs : List ℕ) → 0xF0 ≤ b → 0x80 ≤ least → most ≤ 0xBF
-    → ((x y z : ℕ) → least ≤ x → x ≤ most → y ≤ 0xBF → z ≤ 0xBF → (0x10000 ≤ four_of b x y z) × (four_of b x y z ≤ 0x10FFFF)) → Next least most EndsInTwo bs → IsOfCharacters (b ∷ bs)
+    → ((x y z : ℕ) → least ≤ x → x ≤ most → y ≤ 0xBF → z ≤ 0xBF → (0x10000 ≤ four_of b x y z) × (four_of b x y z ≤ 0x10FFFF))
+    → Next least most EndsInTwo bs → IsOfCharacters (b ∷ bs)
 from_four b least most bs bl low high is t =
     let i = is t.0 t.5.0 t.5.5.0 t.3 t.4 t.5.4 t.5.5.4 in
     subst (λ x. IsOfCharacters (b ∷ x)) (sym (t.2 ∙ ap (λ x. t.0 ∷ x) (t.5.2 ∙ ap (λ x. t.5.0 ∷ x) t.5.5.2)))
@@ -198,11 +211,13 @@ from_four b least most bs bl low high is t =
 
 from_E0 : (bs : List ℕ) → Next 0xA0 0xBF Ends bs → IsOfCharacters (0xE0 ∷ bs)
 unfolding three_of
-from_E0 bs t = from_three 0xE0 0xA0 0xBF bs (omega arith) (omega arith) (omega arith) (λ x y xl xh yl yh. (omega (arith, xl), omega (arith, xh, yh), inl (omega (arith, xh, yh)))) t
+from_E0 bs t = from_three 0xE0 0xA0 0xBF bs (omega arith) (omega arith) (omega arith)
+    (λ x y xl xh yl yh. (omega (arith, xl), omega (arith, xh, yh), inl (omega (arith, xh, yh)))) t
 
 from_ED : (bs : List ℕ) → Next 0x80 0x9F Ends bs → IsOfCharacters (0xED ∷ bs)
 unfolding three_of
-from_ED bs t = from_three 0xED 0x80 0x9F bs (omega arith) (omega arith) (omega arith) (λ x y xl xh yl yh. (omega arith, omega (arith, xh, yh), inl (omega (arith, xh, yh)))) t
+from_ED bs t = from_three 0xED 0x80 0x9F bs (omega arith) (omega arith) (omega arith)
+    (λ x y xl xh yl yh. (omega arith, omega (arith, xh, yh), inl (omega (arith, xh, yh)))) t
 
 from_EF : (bs : List ℕ) → Trails AfterEF bs → IsOfCharacters (0xEF ∷ bs)
 unfolding three_of
@@ -221,9 +236,11 @@ from_EF bs (inr t) =
     is : (x y : ℕ) → 0xBF ≤ x → x ≤ 0xBF → 0x80 ≤ y → y ≤ 0xBD → IsThree (three_of 0xEF x y)
     is x y xl xh yl yh = (omega (arith, xl), omega (arith, xh, yh), inr (omega (arith, xl), omega (arith, xh, yh)))
 
-from_plain : (b : ℕ) (bs : List ℕ) → 0xE0 ≤ b → b < 0xF0 → (b ≡ 0xE0 → ⊥) → (b ≡ 0xED → ⊥) → (b ≡ 0xEF → ⊥) → EndsInTwo bs → IsOfCharacters (b ∷ bs)
+from_plain : (b : ℕ) (bs : List ℕ) → 0xE0 ≤ b → b < 0xF0 → (b ≡ 0xE0 → ⊥) → (b ≡ 0xED → ⊥) → (b ≡ 0xEF → ⊥) → EndsInTwo bs
+    → IsOfCharacters (b ∷ bs)
 unfolding three_of
-from_plain b bs l h e d f t = from_three b 0x80 0xBF bs l (omega arith) (omega arith) (λ x y xl xh yl yh. is x y xl xh yl yh (nat_lt b 0xED) refl) t
+from_plain b bs l h e d f t = from_three b 0x80 0xBF bs l (omega arith) (omega arith)
+    (λ x y xl xh yl yh. is x y xl xh yl yh (nat_lt b 0xED) refl) t
   where
     is : (x y : ℕ) → 0x80 ≤ x → x ≤ 0xBF → 0x80 ≤ y → y ≤ 0xBF → (q : Bool) → nat_lt b 0xED ≡ q → IsThree (three_of b x y)
     is x y xl xh yl yh true q = low (ltb-true b 0xED q)
@@ -237,15 +254,18 @@ from_plain b bs l h e d f t = from_three b 0x80 0xBF bs l (omega arith) (omega a
 
 from_F0 : (bs : List ℕ) → Next 0x90 0xBF EndsInTwo bs → IsOfCharacters (0xF0 ∷ bs)
 unfolding four_of
-from_F0 bs t = from_four 0xF0 0x90 0xBF bs (omega arith) (omega arith) (omega arith) (λ x y z xl xh yh zh. (omega (arith, xl), omega (arith, xh, yh, zh))) t
+from_F0 bs t = from_four 0xF0 0x90 0xBF bs (omega arith) (omega arith) (omega arith)
+    (λ x y z xl xh yh zh. (omega (arith, xl), omega (arith, xh, yh, zh))) t
 
 from_F4 : (bs : List ℕ) → Next 0x80 0x8F EndsInTwo bs → IsOfCharacters (0xF4 ∷ bs)
 unfolding four_of
-from_F4 bs t = from_four 0xF4 0x80 0x8F bs (omega arith) (omega arith) (omega arith) (λ x y z xl xh yh zh. (omega arith, omega (arith, xh, yh, zh))) t
+from_F4 bs t = from_four 0xF4 0x80 0x8F bs (omega arith) (omega arith) (omega arith)
+    (λ x y z xl xh yh zh. (omega arith, omega (arith, xh, yh, zh))) t
 
 from_other : (b : ℕ) (bs : List ℕ) → 0xF0 ≤ b → b < 0xF4 → (b ≡ 0xF0 → ⊥) → Next 0x80 0xBF EndsInTwo bs → IsOfCharacters (b ∷ bs)
 unfolding four_of
-from_other b bs l h e t = from_four b 0x80 0xBF bs l (omega arith) (omega arith) (λ x y z xl xh yh zh. (omega (arith, l, e), omega (arith, h, xh, yh, zh))) t
+from_other b bs l h e t = from_four b 0x80 0xBF bs l (omega arith) (omega arith)
+    (λ x y z xl xh yh zh. (omega (arith, l, e), omega (arith, h, xh, yh, zh))) t
 
 -- ---- byte by byte
 
@@ -261,7 +281,8 @@ module _ (b : ℕ) (bs : List ℕ) (f : Follows bs) where
   leads_three : 0xE0 ≤ b → b < 0xF0 → octets (At (lead_of_three b)) bs ≡ At Between → IsOfCharacters (b ∷ bs)
   leads_three l h e = by (b == 0xE0) (b == 0xED) (b == 0xEF) refl refl refl e
     where
-      by : (x y z : Bool) → (b == 0xE0) ≡ x → (b == 0xED) ≡ y → (b == 0xEF) ≡ z → octets (At (cond x AfterE0 (cond y AfterED (cond z AfterEF Two)))) bs ≡ At Between → IsOfCharacters (b ∷ bs)
+      by : (x y z : Bool) → (b == 0xE0) ≡ x → (b == 0xED) ≡ y → (b == 0xEF) ≡ z
+          → octets (At (cond x AfterE0 (cond y AfterED (cond z AfterEF Two)))) bs ≡ At Between → IsOfCharacters (b ∷ bs)
       by true y z p q r e = subst (λ x. IsOfCharacters (x ∷ bs)) (sym (eqb-true b 0xE0 p)) (from_E0 bs (f AfterE0 e))
       by false true z p q r e = subst (λ x. IsOfCharacters (x ∷ bs)) (sym (eqb-true b 0xED q)) (from_ED bs (f AfterED e))
       by false false true p q r e = subst (λ x. IsOfCharacters (x ∷ bs)) (sym (eqb-true b 0xEF r)) (from_EF bs (f AfterEF e))
@@ -270,7 +291,8 @@ module _ (b : ℕ) (bs : List ℕ) (f : Follows bs) where
   leads_four : 0xF0 ≤ b → octets (lead_of_four b) bs ≡ At Between → IsOfCharacters (b ∷ bs)
   leads_four l e = by (b == 0xF0) (nat_lt b 0xF4) (b == 0xF4) refl refl refl e
     where
-      by : (x y z : Bool) → (b == 0xF0) ≡ x → nat_lt b 0xF4 ≡ y → (b == 0xF4) ≡ z → octets (cond x (At AfterF0) (cond y (At Three) (cond z (At AfterF4) (Broken NotUtf8)))) bs ≡ At Between
+      by : (x y z : Bool) → (b == 0xF0) ≡ x → nat_lt b 0xF4 ≡ y → (b == 0xF4) ≡ z
+          → octets (cond x (At AfterF0) (cond y (At Three) (cond z (At AfterF4) (Broken NotUtf8)))) bs ≡ At Between
           → IsOfCharacters (b ∷ bs)
       by true y z p q r e = subst (λ x. IsOfCharacters (x ∷ bs)) (sym (eqb-true b 0xF0 p)) (from_F0 bs (f AfterF0 e))
       by false true z p q r e = from_other b bs l (ltb-true b 0xF4 q) (eqb-false b 0xF0 p) (f Three e)
@@ -282,7 +304,8 @@ module _ (b : ℕ) (bs : List ℕ) (f : Follows bs) where
   leads low e = by (nat_lt b 0x80) (nat_lt b 0xC2) (nat_lt b 0xE0) (nat_lt b 0xF0) refl refl refl refl e
     where
       by : (x y z w : Bool) → nat_lt b 0x80 ≡ x → nat_lt b 0xC2 ≡ y → nat_lt b 0xE0 ≡ z → nat_lt b 0xF0 ≡ w
-          → octets (cond x (At Between) (cond y (Broken NotUtf8) (cond z (At One) (cond w (At (lead_of_three b)) (lead_of_four b))))) bs ≡ At Between → IsOfCharacters (b ∷ bs)
+          → octets (cond x (At Between) (cond y (Broken NotUtf8) (cond z (At One) (cond w (At (lead_of_three b)) (lead_of_four b))))) bs
+          ≡ At Between → IsOfCharacters (b ∷ bs)
       by true y z w p q r s e = one b bs (ltb-true b 0x80 p) (low (ltb-true b 0x80 p)) (f Between e)
       by false true z w p q r s e = absurd (broken NotUtf8 bs Between e)
       by false false true w p q r s e = from_two b bs (ltb-false b 0xC2 q) (ltb-true b 0xE0 r) (f One e)
@@ -296,17 +319,20 @@ module _ (b : ℕ) (bs : List ℕ) (f : Follows bs) where
   third : octets (third_last b) bs ≡ At Between → Trails AfterEF (b ∷ bs)
   third e = by (b == 0xBF) refl e
     where
-      is : b ≡ 0xBF → Next 0xBF 0xBF (λ more. Next 0x80 0xBD IsOfCharacters more) (0xBF ∷ bs) → Next 0xBF 0xBF (λ more. Next 0x80 0xBD IsOfCharacters more) (b ∷ bs)
+      is : b ≡ 0xBF → Next 0xBF 0xBF (λ more. Next 0x80 0xBD IsOfCharacters more) (0xBF ∷ bs)
+          → Next 0xBF 0xBF (λ more. Next 0x80 0xBD IsOfCharacters more) (b ∷ bs)
       is p n = subst (λ x. Next 0xBF 0xBF (λ more. Next 0x80 0xBD IsOfCharacters more) (x ∷ bs)) (sym p) n
 
-      by : (x : Bool) → (b == 0xBF) ≡ x → octets (cond x (At AfterEFBF) (followed b 0x80 0xBE One)) bs ≡ At Between → Trails AfterEF (b ∷ bs)
+      by : (x : Bool) → (b == 0xBF) ≡ x → octets (cond x (At AfterEFBF) (followed b 0x80 0xBE One)) bs ≡ At Between
+          → Trails AfterEF (b ∷ bs)
       by true p e = inr (is (eqb-true b 0xBF p) (0xBF, bs, refl, omega arith, omega arith, f AfterEFBF e))
       by false p e = inl (trails 0x80 0xBE One e)
 
   second : octets (last b) bs ≡ At Between → Trails AfterEFBF (b ∷ bs)
   second e = by (b == 0xBE) (b == 0xBF) e
     where
-      by : (x y : Bool) → octets (cond x (Broken Syntax) (cond y (Broken Syntax) (followed b 0x80 0xBD Between))) bs ≡ At Between → Trails AfterEFBF (b ∷ bs)
+      by : (x y : Bool) → octets (cond x (Broken Syntax) (cond y (Broken Syntax) (followed b 0x80 0xBD Between))) bs ≡ At Between
+          → Trails AfterEFBF (b ∷ bs)
       by true y e = absurd (broken Syntax bs Between e)
       by false true e = absurd (broken Syntax bs Between e)
       by false false e = trails 0x80 0xBD Between e

@@ -15,7 +15,8 @@ comment_ending body rest = body ++ 45 ∷ 45 ∷ 62 ∷ rest
 
 -- behind so many hyphens of a comment
 abbrev pub LeadsComment : Seen → (List ℕ → Type 0) → List ℕ → Type 0
-LeadsComment seen After bs = (body : List ℕ) × (rest : List ℕ) × IsComment body × (hyphens_and seen bs ≡ comment_ending body rest) × After rest
+LeadsComment seen After bs = (body : List ℕ) × (rest : List ℕ) × IsComment body
+    × (hyphens_and seen bs ≡ comment_ending body rest) × After rest
 
 head_same : (x y : ℕ) (xs ys : List ℕ) → x ∷ xs ≡ y ∷ ys → x ≡ y
 head_same x y xs ys e = cc
@@ -31,10 +32,12 @@ pub no_second : (b : ℕ) (bs : List ℕ) → (b ≡ 45 → ⊥) → IsFront (45
 no_second b bs n f = n (head_same b 45 bs f.0 (tail_same 45 45 (b ∷ bs) (45 ∷ f.0) f.1))
 
 -- another character
-pub comment_character : (After : List ℕ → Type 0) (b : ℕ) (bs : List ℕ) → is_character b ≡ true → (b ≡ 45 → ⊥) → LeadsComment Zero After bs → LeadsComment Zero After (b ∷ bs)
+pub comment_character : (After : List ℕ → Type 0) (b : ℕ) (bs : List ℕ) → is_character b ≡ true → (b ≡ 45 → ⊥) → LeadsComment Zero After bs
+    → LeadsComment Zero After (b ∷ bs)
 comment_character After b bs c n l = (b ∷ l.0, l.1, ((c, l.2.0), (no_first b (l.0 ++ 45 ∷ []) n, l.2.1)), ap (λ x. b ∷ x) l.3, l.4)
 
-pub comment_second : (After : List ℕ → Type 0) (b : ℕ) (bs : List ℕ) → is_character b ≡ true → (b ≡ 45 → ⊥) → LeadsComment Zero After bs → LeadsComment One After (b ∷ bs)
+pub comment_second : (After : List ℕ → Type 0) (b : ℕ) (bs : List ℕ) → is_character b ≡ true → (b ≡ 45 → ⊥) → LeadsComment Zero After bs
+    → LeadsComment One After (b ∷ bs)
 comment_second After b bs c n l = (
   45 ∷ b ∷ l.0,
   l.1,

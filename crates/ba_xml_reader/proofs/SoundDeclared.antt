@@ -21,7 +21,8 @@ module _ (After : List ℕ → Type 0) where
   WordGoes i (progress.Part more) bs = LeadsWord i more bs
   WordGoes i progress.Whole bs = SaidThen After i (BehindItem After i false) bs
 
-  word_from : (i : Item) (count b : ℕ) (bs : List ℕ) (p : Progress) → LeftOf (item_text i) count b p → WordGoes i p bs → LeadsWord i count (b ∷ bs)
+  word_from : (i : Item) (count b : ℕ) (bs : List ℕ) (p : Progress) → LeftOf (item_text i) count b p → WordGoes i p bs
+      → LeadsWord i count (b ∷ bs)
   word_from i count b bs progress.Nowhere l g = absurd g
   word_from i count b bs (progress.Part more) l g = (g.0, ap (λ x. b ∷ x) g.1 ∙ ap (λ x. x ++ g.0) (sym l), g.2)
   word_from i count b bs progress.Whole l g = (bs, ap (λ x. x ++ bs) (sym l), g)
@@ -33,5 +34,6 @@ module _ (After : List ℕ → Type 0) where
   pub item_begins : (i : Item) (bs : List ℕ) → LeadsWord i 0 bs → ItemThen After i (BehindItem After i false) true bs
   item_begins i bs l = ([], l.0, (tt, (λ e. absurd (true≢false e))), l.1, l.2)
 
-  pub said_space : (i : Item) (b : ℕ) (bs : List ℕ) → IsMark class.Space b → SaidThen After i (BehindItem After i false) bs → SaidThen After i (BehindItem After i false) (b ∷ bs)
+  pub said_space : (i : Item) (b : ℕ) (bs : List ℕ) → IsMark class.Space b → SaidThen After i (BehindItem After i false) bs
+      → SaidThen After i (BehindItem After i false) (b ∷ bs)
   said_space i b bs m l = (b ∷ l.0, l.1, l.2, l.3, l.4, (m, l.5), l.6, l.7, l.8, ap (λ x. b ∷ x) l.9, l.10)

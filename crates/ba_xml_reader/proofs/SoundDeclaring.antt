@@ -1,17 +1,21 @@
 -- The states inside the declaration backward, and with them the declaration of a text that is read.
-use Rattle.std.proofs.Common.{◌≡◌, ℕ, ◌+◌, Bool, true, false, cond, ◌==◌, nat_lt, List, [], ◌∷◌, ◌++◌, map, length, drop, codes, slice_index, refl, sym, ap, ◌∙◌, subst, ◌⊎◌, inl, inr, arith}
+use Rattle.std.proofs.Common.{◌≡◌, ℕ, ◌+◌, Bool, true, false, cond, ◌==◌, nat_lt, List, [], ◌∷◌, ◌++◌, map, length, drop, codes}
+use Rattle.std.proofs.Common.{slice_index, refl, sym, ap, ◌∙◌, subst, ◌⊎◌, inl, inr, arith}
 use Rattle.std.proofs.lemmas.Bool.{ltb-false, eqb-true}
 use Rattle.ba_tree.specs.declared.trees.Tree.{Tree}
 use Rattle.ba_xml_reader.proofs.CompleteSteps.{none}
 use Rattle.ba_xml_reader.proofs.SoundDeclared.{LeadsWord, WordGoes, word_back, item_begins, said_space}
 use Rattle.ba_xml_reader.proofs.SoundDocuments.{IsReadTo, top, Headed, no_tree, no_refused, next}
-use Rattle.ba_xml_reader.proofs.SoundHeadings.{Says, SaysLeft, SaidThen, ItemThen, BehindItem, item_space, behind_space, behind_close, head_of}
+use Rattle.ba_xml_reader.proofs.SoundHeadings.{Says, SaysLeft, SaidThen, ItemThen, BehindItem, item_space, behind_space, behind_close}
+use Rattle.ba_xml_reader.proofs.SoundHeadings.{head_of}
 use Rattle.ba_xml_reader.proofs.SoundKinds.{IsMark, mark_told}
 use Rattle.ba_xml_reader.proofs.SoundPieces.{Outside}
 use Rattle.ba_xml_reader.proofs.SoundSteps.{leads}
 use Rattle.ba_xml_words.proofs.SoundWords.{LeftOf, word_left}
 use Rattle.ba_xml_words.specs.Classes.{class_of}
-use Rattle.ba_xml_words.specs.inside.Headings.{item_text, setting_text, first_setting, spelling, setting_at_first, setting_by, target_by, begun_by, item_begun, blank_after, later_item, next_item, behind_after, word_by, equals_after, quote_after, said_by, said_all_after, closed_after, heading_after}
+use Rattle.ba_xml_words.specs.inside.Headings.{item_text, setting_text, first_setting, spelling, setting_at_first, setting_by, target_by}
+use Rattle.ba_xml_words.specs.inside.Headings.{begun_by, item_begun, blank_after, later_item, next_item, behind_after, word_by}
+use Rattle.ba_xml_words.specs.inside.Headings.{equals_after, quote_after, said_by, said_all_after, closed_after, heading_after}
 use Rattle.ba_xml_reader.specs.inside.Content.{declaring_by}
 use Rattle.ba_xml_reader.specs.inside.Machine.{document, ended_at}
 use Rattle.ba_xml_words.specs.inside.Words.{reached_at}
@@ -94,7 +98,8 @@ IsNext count progress.Whole = Unit {0}
 part_next : (word : List ℕ) (count b : ℕ) → IsNext count (reached_at word count b)
 part_next word count b = by (nat_lt count (length word)) (slice_index word count == b) (count + 1 == length word)
   where
-    by : (within same last : Bool) → IsNext count (cond within (cond same (cond last progress.Whole (progress.Part (count + 1))) progress.Nowhere) progress.Nowhere)
+    by : (within same last : Bool) → IsNext count
+        (cond within (cond same (cond last progress.Whole (progress.Part (count + 1))) progress.Nowhere) progress.Nowhere)
     by true true true = tt
     by true true false = refl
     by true false last = tt
@@ -116,7 +121,8 @@ module _ (After : List ℕ → Type 0) where
 
   -- the rest of "xml", and the version's item
   abbrev LeadsTarget : ℕ → List ℕ → Type 0
-  LeadsTarget count bs = (r : List ℕ) × (bs ≡ drop count (codes "xml") ++ r) × ItemThen After item.Version (BehindItem After item.Version false) false r
+  LeadsTarget count bs = (r : List ℕ) × (bs ≡ drop count (codes "xml") ++ r)
+      × ItemThen After item.Version (BehindItem After item.Version false) false r
 
   -- from white space behind "=" on
   abbrev LeadsQuote : Item → List ℕ → Type 0
@@ -125,7 +131,8 @@ module _ (After : List ℕ → Type 0) where
 
   -- the rest of what is said, and the quote
   abbrev LeadsSaid : Item → ℕ → Setting → ℕ → List ℕ → Type 0
-  LeadsSaid i quote s count bs = (told : Setting) × (value : List ℕ) × (rest : List ℕ) × MayBe s count told × SaysLeft told count value × (bs ≡ value ++ quote ∷ rest) × Behind i rest
+  LeadsSaid i quote s count bs = (told : Setting) × (value : List ℕ) × (rest : List ℕ) × MayBe s count told × SaysLeft told count value
+      × (bs ≡ value ++ quote ∷ rest) × Behind i rest
 
   abbrev LeadsHeading : Heading → List ℕ → Type 0
   LeadsHeading (heading'.Target count) bs = LeadsTarget count bs
@@ -145,7 +152,8 @@ module _ (After : List ℕ → Type 0) where
 
   -- ---- one byte backward
 
-  target_from : (count b : ℕ) (bs : List ℕ) (p : Progress) → LeftOf (codes "xml") count b p → HeadingGoes (target_by p) bs → LeadsTarget count (b ∷ bs)
+  target_from : (count b : ℕ) (bs : List ℕ) (p : Progress) → LeftOf (codes "xml") count b p → HeadingGoes (target_by p) bs
+      → LeadsTarget count (b ∷ bs)
   target_from count b bs progress.Nowhere l g = absurd g
   target_from count b bs (progress.Part more) l g = (g.0, ap (λ x. b ∷ x) g.1 ∙ ap (λ x. x ++ g.0) (sym l), g.2)
   target_from count b bs progress.Whole l g = (bs, ap (λ x. x ++ bs) (sym l), g)
@@ -173,7 +181,9 @@ module _ (After : List ℕ → Type 0) where
   blank_back spaced b bs class.Space m g = item_space After item.Version (BehindItem After item.Version false) spaced b bs m g
   blank_back spaced b bs _ m g = version_back spaced b bs g
 
-  over_version : (encoding : Bool) (b : ℕ) (bs : List ℕ) → HeadingGoes (cond encoding (item_begun item.Encoding b) (item_begun item.Standalone b)) bs → BehindItem After item.Version true (b ∷ bs)
+  over_version : (encoding : Bool) (b : ℕ) (bs : List ℕ)
+      → HeadingGoes (cond encoding (item_begun item.Encoding b) (item_begun item.Standalone b)) bs
+      → BehindItem After item.Version true (b ∷ bs)
   over_version true b bs g = inl (item_back item.Encoding b bs g)
   over_version false b bs g = inr (inl (item_back item.Standalone b bs g))
 
@@ -186,15 +196,19 @@ module _ (After : List ℕ → Type 0) where
   next_back i true b bs g = later_back i b bs g
   next_back i false b bs g = absurd g
 
-  close_back : (i : Item) (spaced : Bool) (b : ℕ) (bs : List ℕ) → b ≡ 63 → LeadsHeading heading'.Close bs → BehindItem After i spaced (b ∷ bs)
-  close_back i spaced b bs m g = subst (λ x. BehindItem After i spaced x) (sym (ap (λ x. x ∷ bs) m ∙ ap (λ x. 63 ∷ x) g.1)) (behind_close After i spaced g.0 g.2)
+  close_back : (i : Item) (spaced : Bool) (b : ℕ) (bs : List ℕ) → b ≡ 63 → LeadsHeading heading'.Close bs
+      → BehindItem After i spaced (b ∷ bs)
+  close_back i spaced b bs m g = subst (λ x. BehindItem After i spaced x) (sym (ap (λ x. x ∷ bs) m ∙ ap (λ x. 63 ∷ x) g.1))
+      (behind_close After i spaced g.0 g.2)
 
-  behind_back : (i : Item) (spaced : Bool) (b : ℕ) (bs : List ℕ) (k : Class) → IsMark k b → HeadingGoes (behind_after i spaced b k) bs → BehindItem After i spaced (b ∷ bs)
+  behind_back : (i : Item) (spaced : Bool) (b : ℕ) (bs : List ℕ) (k : Class) → IsMark k b → HeadingGoes (behind_after i spaced b k) bs
+      → BehindItem After i spaced (b ∷ bs)
   behind_back i spaced b bs class.Space m g = behind_space After i spaced b bs m g
   behind_back i spaced b bs class.Question m g = close_back i spaced b bs m g
   behind_back i spaced b bs _ m g = next_back i spaced b bs g
 
-  equals_back : (i : Item) (b : ℕ) (bs : List ℕ) (k : Class) → IsMark k b → HeadingGoes (equals_after i k) bs → SaidThen After i (BehindItem After i false) (b ∷ bs)
+  equals_back : (i : Item) (b : ℕ) (bs : List ℕ) (k : Class) → IsMark k b → HeadingGoes (equals_after i k) bs
+      → SaidThen After i (BehindItem After i false) (b ∷ bs)
   equals_back i b bs class.Space m g = said_space After i b bs m g
   equals_back i b bs class.EqualsSign m g = ([], g.0, g.1, g.2, g.3, tt, g.4, g.5, g.6, ap (λ x. x ∷ bs) m ∙ ap (λ x. 61 ∷ x) g.7, g.8)
   equals_back i b bs _ m g = absurd g
@@ -209,22 +223,34 @@ module _ (After : List ℕ → Type 0) where
   quote_back i b bs _ m g = absurd g
 
   -- the byte is of what is said by this setting
-  said_from : (i : Item) (quote : ℕ) (s told : Setting) (count b : ℕ) (bs : List ℕ) (p : Progress) → MayBe s count told → LeftOf (setting_text told) count (spelling told b) p → IsNext count p
+  said_from : (i : Item) (quote : ℕ) (s told : Setting) (count b : ℕ) (bs : List ℕ) (p : Progress) → MayBe s count told
+      → LeftOf (setting_text told) count (spelling told b) p → IsNext count p
       → HeadingGoes (said_by i quote told p) bs → LeadsSaid i quote s count (b ∷ bs)
   said_from i quote s told count b bs progress.Nowhere m l n g = absurd g
-  said_from i quote s told count b bs (progress.Part more) m l n g =
-      (told, b ∷ g.1, g.2, m, ap (λ x. spelling told b ∷ x) (subst (λ t. SaysLeft t more g.1) (still told g.0 count more n g.3) g.4) ∙ sym l, ap (λ x. b ∷ x) g.5, g.6)
+  said_from i quote s told count b bs (progress.Part more) m l n g = (
+    told,
+    b ∷ g.1,
+    g.2,
+    m,
+    ap (λ x. spelling told b ∷ x) (subst (λ t. SaysLeft t more g.1) (still told g.0 count more n g.3) g.4)
+        ∙ sym l,
+    ap (λ x. b ∷ x) g.5,
+    g.6,
+  )
   said_from i quote s told count b bs progress.Whole m l n g = (told, b ∷ [], g.0, m, sym l, ap (λ x. b ∷ x) g.1, g.2)
 
-  said_back : (i : Item) (quote : ℕ) (s told : Setting) (count b : ℕ) (bs : List ℕ) → MayBe s count told → HeadingGoes (said_by i quote told (reached_at (setting_text told) count (spelling told b))) bs
+  said_back : (i : Item) (quote : ℕ) (s told : Setting) (count b : ℕ) (bs : List ℕ) → MayBe s count told
+      → HeadingGoes (said_by i quote told (reached_at (setting_text told) count (spelling told b))) bs
       → LeadsSaid i quote s count (b ∷ bs)
   said_back i quote s told count b bs m g = said_from i quote s told count b bs (reached_at (setting_text told) count (spelling told b)) m
       (word_left (setting_text told) count (spelling told b)) (part_next (setting_text told) count (spelling told b)) g
 
-  said_all_back : (i : Item) (quote b : ℕ) (bs : List ℕ) → HeadingGoes (said_all_after i quote b) bs → LeadsHeading (heading'.SaidAll i quote) (b ∷ bs)
+  said_all_back : (i : Item) (quote b : ℕ) (bs : List ℕ) → HeadingGoes (said_all_after i quote b) bs
+      → LeadsHeading (heading'.SaidAll i quote) (b ∷ bs)
   said_all_back i quote b bs g = by (b == quote) refl g
     where
-      by : (q : Bool) → (b == quote) ≡ q → HeadingGoes (cond q (declared'.On (heading'.Behind i false)) declared'.Wrong) bs → LeadsHeading (heading'.SaidAll i quote) (b ∷ bs)
+      by : (q : Bool) → (b == quote) ≡ q → HeadingGoes (cond q (declared'.On (heading'.Behind i false)) declared'.Wrong) bs
+          → LeadsHeading (heading'.SaidAll i quote) (b ∷ bs)
       by true q g = (bs, ap (λ x. x ∷ bs) (eqb-true b quote q), g)
       by false q g = absurd g
 
@@ -234,7 +260,8 @@ module _ (After : List ℕ → Type 0) where
 
   heading_back : (h : Heading) (b : ℕ) (bs : List ℕ) → HeadingGoes (heading_after h b (class_of b)) bs → LeadsHeading h (b ∷ bs)
   unfolding heading_after
-  heading_back (heading'.Target count) b bs g = target_from count b bs (reached_at (codes "xml") count b) (word_left (codes "xml") count b) g
+  heading_back (heading'.Target count) b bs g =
+      target_from count b bs (reached_at (codes "xml") count b) (word_left (codes "xml") count b) g
   heading_back (heading'.Blank spaced) b bs g = blank_back spaced b bs (class_of b) (mark_told b) g
   heading_back (heading'.Behind i spaced) b bs g = behind_back i spaced b bs (class_of b) (mark_told b) g
   heading_back (heading'.Word i count) b bs g = word_back After i count b bs (word_goes i bs (reached_at (item_text i) count b) g)
@@ -251,14 +278,16 @@ module _ (t : Tree) where
   abbrev Rest : List ℕ → Type 0
   Rest bs = Outside document [] bs t
 
-  goes : (bs : List ℕ) (d : Declared) → ((h : Heading) → IsReadTo t (top (mode.Declaring h)) bs → LeadsHeading Rest h bs) → IsReadTo t (declaring_by [] document d) bs → HeadingGoes Rest d bs
+  goes : (bs : List ℕ) (d : Declared) → ((h : Heading) → IsReadTo t (top (mode.Declaring h)) bs → LeadsHeading Rest h bs)
+      → IsReadTo t (declaring_by [] document d) bs → HeadingGoes Rest d bs
   goes bs declared'.Wrong ih e = absurd (no_refused Syntax bs t e)
   goes bs (declared'.On h) ih e = ih h e
   goes bs declared'.Whole ih e = leads bs (top (mode.Inside Zero)) t e
 
   declaring : (bs : List ℕ) (h : Heading) → IsReadTo t (top (mode.Declaring h)) bs → LeadsHeading Rest h bs
   declaring [] h e = absurd (no_tree t (sym (ap ended_at (none (top (mode.Declaring h)))) ∙ e))
-  declaring (b ∷ bs) h e = heading_back Rest h b bs (goes bs (heading_after h b (class_of b)) (declaring bs) (next t (mode.Declaring h) b bs e))
+  declaring (b ∷ bs) h e = heading_back Rest h b bs
+      (goes bs (heading_after h b (class_of b)) (declaring bs) (next t (mode.Declaring h) b bs e))
 
   -- what is read behind "<?" begins with the rest of a declaration
   pub declaration_read : (bs : List ℕ) → IsReadTo t (top (mode.Declaring (heading'.Target 0))) bs → Headed t (60 ∷ 63 ∷ bs)

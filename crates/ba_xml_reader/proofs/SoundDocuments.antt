@@ -14,7 +14,8 @@ use Rattle.ba_xml_words.specs.Classes.{class_of}
 use Rattle.ba_xml_reader.specs.inside.Content.{begin_after, wanted_after, first_after, first_open_after, open_after}
 use Rattle.ba_xml_reader.specs.inside.Machine.{document, act_by, root_of, child_by, ended_at}
 use Rattle.ba_xml_names.specs.Namespaces.{first_scope}
-use Rattle.ba_xml_grammar.specs.Grammar.{Pieces, nothing, empty, element, Head, no_head, Document, written_mark, written_heading, written_misc, written_document, meaning, IsRoot, IsHeading, IsDocument, Small}
+use Rattle.ba_xml_grammar.specs.Grammar.{Pieces, nothing, empty, element, Head, no_head, Document, written_mark, written_heading}
+use Rattle.ba_xml_grammar.specs.Grammar.{written_misc, written_document, meaning, IsRoot, IsHeading, IsDocument, Small}
 use Rattle.ba_xml_grammar.specs.GrammarTexts.{Means}
 use Rattle.ba_xml_words.specs.declared.classes.Class.{Class}
 use Rattle.ba_xml_words.specs.declared.classes.Class.TheVariants as class
@@ -46,7 +47,8 @@ no_refused r bs t e = no_tree t (sym (ap ended_at (stays r bs)) ∙ e)
 only_child : (a t : Tree) → root_of (Child a ∷ []) ≡ Some t → ◌≡◌ {A = List Content} (Child a ∷ []) (Child t ∷ [])
 only_child a t e = ap (λ x. Child x ∷ []) (same_some a t (sym (ap child_by (outs-Child a)) ∙ e))
 
-root_tree : (root : Pieces) (t : Tree) → IsRoot root → root_of (content_after first_scope [] [] root) ≡ Some t → meaning first_scope root ≡ Child t ∷ []
+root_tree : (root : Pieces) (t : Tree) → IsRoot root → root_of (content_after first_scope [] [] root) ≡ Some t
+    → meaning first_scope root ≡ Child t ∷ []
 root_tree (empty s nothing) t i e = only_child _ t e
 root_tree (element s inside space nothing) t i e = only_child _ t e
 root_tree _ t i e = absurd i

@@ -3,7 +3,9 @@ use Rattle.std.proofs.Common.{◌≡◌, ℕ, Bool, true, false, List, [], ◌�
 use Rattle.std.specs.Char.{to_ascii_lowercase}
 use Rattle.ba_xml_reader.proofs.SoundKinds.{IsMark}
 use Rattle.ba_xml_words.specs.inside.Headings.{item_text, setting_text, spelling}
-use Rattle.ba_xml_grammar.specs.Grammar.{Encoding, no_encoding, encoding, Standalone, no_standalone, standalone, Head, head, written_encoding, written_standalone, written_heading, IsEncoding, IsStandalone, IsHeading, yes_or_no}
+use Rattle.ba_xml_grammar.specs.Grammar.{Encoding, no_encoding, encoding, Standalone, no_standalone, standalone, Head, head}
+use Rattle.ba_xml_grammar.specs.Grammar.{written_encoding, written_standalone, written_heading, IsEncoding, IsStandalone, IsHeading}
+use Rattle.ba_xml_grammar.specs.Grammar.{yes_or_no}
 use Rattle.ba_xml_grammar.specs.GrammarWords.{Begun, IsWhite, IsQuote}
 use Rattle.ba_xml_words.specs.declared.classes.Class.TheVariants as class
 use Rattle.ba_xml_words.specs.declared.headings.Item.{Item}
@@ -30,7 +32,8 @@ module _ (After : List ℕ → Type 0) where
 
   -- from "=" on, up to the last quote, and then what may follow
   abbrev pub SaidThen : Item → (List ℕ → Type 0) → List ℕ → Type 0
-  SaidThen i Next bs = (left : List ℕ) × (right : List ℕ) × (quote : ℕ) × (value : List ℕ) × (rest : List ℕ) × IsWhite left × IsWhite right × IsQuote quote × Says i value
+  SaidThen i Next bs = (left : List ℕ) × (right : List ℕ) × (quote : ℕ) × (value : List ℕ) × (rest : List ℕ) × IsWhite left × IsWhite right
+      × IsQuote quote × Says i value
       × (bs ≡ left ++ 61 ∷ (right ++ quote ∷ (value ++ quote ∷ rest))) × Next rest
 
   -- an item from its white space on
@@ -53,7 +56,8 @@ module _ (After : List ℕ → Type 0) where
   BehindItem item.Standalone spaced bs = BehindStandalone spaced bs
 
   -- white space before what follows an item
-  pub item_space : (i : Item) (Next : List ℕ → Type 0) (spaced : Bool) (b : ℕ) (bs : List ℕ) → IsMark class.Space b → ItemThen i Next true bs → ItemThen i Next spaced (b ∷ bs)
+  pub item_space : (i : Item) (Next : List ℕ → Type 0) (spaced : Bool) (b : ℕ) (bs : List ℕ) → IsMark class.Space b
+      → ItemThen i Next true bs → ItemThen i Next spaced (b ∷ bs)
   item_space i Next spaced b bs m l = (b ∷ l.0, l.1, ((m, l.2.0), (λ e. tt)), ap (λ x. b ∷ x) l.3, l.4)
 
   ends_space : (spaced : Bool) (b : ℕ) (bs : List ℕ) → IsMark class.Space b → Ends true bs → Ends spaced (b ∷ bs)
@@ -67,7 +71,8 @@ module _ (After : List ℕ → Type 0) where
   version_space spaced b bs m (inl l) = inl (item_space item.Encoding (BehindEncoding false) spaced b bs m l)
   version_space spaced b bs m (inr l) = inr (encoding_space spaced b bs m l)
 
-  pub behind_space : (i : Item) (spaced : Bool) (b : ℕ) (bs : List ℕ) → IsMark class.Space b → BehindItem i true bs → BehindItem i spaced (b ∷ bs)
+  pub behind_space : (i : Item) (spaced : Bool) (b : ℕ) (bs : List ℕ) → IsMark class.Space b → BehindItem i true bs
+      → BehindItem i spaced (b ∷ bs)
   behind_space item.Version spaced b bs m l = version_space spaced b bs m l
   behind_space item.Encoding spaced b bs m l = encoding_space spaced b bs m l
   behind_space item.Standalone spaced b bs m l = ends_space spaced b bs m l
@@ -83,7 +88,8 @@ module _ (After : List ℕ → Type 0) where
   HeadOf bs = (h : Head) × (rest : List ℕ) × IsHeading h × (bs ≡ written_heading h rest) × After rest
 
   abbrev StandaloneOf : List ℕ → Type 0
-  StandaloneOf bs = (s : Standalone) × (space : List ℕ) × (rest : List ℕ) × IsStandalone s × IsWhite space × (bs ≡ written_standalone s (space ++ 63 ∷ 62 ∷ rest)) × After rest
+  StandaloneOf bs = (s : Standalone) × (space : List ℕ) × (rest : List ℕ) × IsStandalone s × IsWhite space
+      × (bs ≡ written_standalone s (space ++ 63 ∷ 62 ∷ rest)) × After rest
 
   abbrev EncodingOf : List ℕ → Type 0
   EncodingOf bs = (e : Encoding) × (r : List ℕ) × IsEncoding e × (bs ≡ written_encoding e r) × StandaloneOf r
@@ -96,7 +102,8 @@ module _ (After : List ℕ → Type 0) where
     ((l.2.1 refl, l.2.0), l.4.5, l.4.6, l.4.7),
     l.4.10.2,
     l.3 ∙ ap (λ x. l.0 ++ (codes "standalone" ++ x)) (l.4.9
-        ∙ ap (λ x. l.4.0 ++ 61 ∷ (l.4.1 ++ l.4.2 ∷ x)) (ap (λ v. v ++ l.4.2 ∷ l.4.4) l.4.8.1 ∙ ap (λ x. yes_or_no l.4.8.0 ++ l.4.2 ∷ x) l.4.10.3)),
+        ∙ ap (λ x. l.4.0 ++ 61 ∷ (l.4.1 ++ l.4.2 ∷ x))
+        (ap (λ v. v ++ l.4.2 ∷ l.4.4) l.4.8.1 ∙ ap (λ x. yes_or_no l.4.8.0 ++ l.4.2 ∷ x) l.4.10.3)),
     l.4.10.4,
   )
   standalone_of bs (inr l) = (no_standalone, l.0, l.1, tt, l.2, l.3, l.4)
@@ -120,6 +127,7 @@ module _ (After : List ℕ → Type 0) where
         e.4.2,
         (((l.2.1 refl, l.2.0), l.4.5, l.4.6, l.4.7), e.2, e.4.3, e.4.4),
         ap (λ x. codes "<?xml" ++ x) (l.3 ∙ ap (λ x. l.0 ++ (codes "version" ++ x)) (l.4.9
-            ∙ ap (λ x. l.4.0 ++ 61 ∷ (l.4.1 ++ l.4.2 ∷ x)) (ap (λ v. v ++ l.4.2 ∷ l.4.4) l.4.8 ∙ ap (λ x. codes "1.0" ++ l.4.2 ∷ x) (e.3 ∙ ap (written_encoding e.0) e.4.5)))),
+            ∙ ap (λ x. l.4.0 ++ 61 ∷ (l.4.1 ++ l.4.2 ∷ x))
+            (ap (λ v. v ++ l.4.2 ∷ l.4.4) l.4.8 ∙ ap (λ x. codes "1.0" ++ l.4.2 ∷ x) (e.3 ∙ ap (written_encoding e.0) e.4.5)))),
         e.4.6,
       )

@@ -40,14 +40,20 @@ is b c e = eqb→eq b c (subst T (sym e) tt)
 
 marks : (b : ℕ) → IsMark (mark_of b) b
 unfolding mark_of
-marks b = if_mark b (b == 60) class.Less _ (λ e. is b 60 e) (if_mark b (b == 62) class.Greater _ (λ e. is b 62 e) (if_mark b (b == 38) class.Ampersand _ (λ e. is b 38 e)
-    (if_mark b (b == 47) class.Slash _ (λ e. is b 47 e) (if_mark b (b == 33) class.Exclamation _ (λ e. is b 33 e) (if_mark b (b == 63) class.Question _ (λ e. is b 63 e)
-    (if_mark b (b == 45) class.Hyphen _ (λ e. is b 45 e) (if_mark b (b == 91) class.OpenBracket _ (λ e. is b 91 e) (if_mark b (b == 93) class.CloseBracket _ (λ e. is b 93 e)
-    (if_mark b (b == 61) class.EqualsSign _ (λ e. is b 61 e) (if_mark b (b == 39) class.Apostrophe _ (λ e. is b 39 e) (if_mark b (b == 34) class.DoubleQuote _ (λ e. is b 34 e)
+marks b = if_mark b (b == 60) class.Less _ (λ e. is b 60 e)
+    (if_mark b (b == 62) class.Greater _ (λ e. is b 62 e) (if_mark b (b == 38) class.Ampersand _ (λ e. is b 38 e)
+    (if_mark b (b == 47) class.Slash _ (λ e. is b 47 e)
+    (if_mark b (b == 33) class.Exclamation _ (λ e. is b 33 e) (if_mark b (b == 63) class.Question _ (λ e. is b 63 e)
+    (if_mark b (b == 45) class.Hyphen _ (λ e. is b 45 e)
+    (if_mark b (b == 91) class.OpenBracket _ (λ e. is b 91 e) (if_mark b (b == 93) class.CloseBracket _ (λ e. is b 93 e)
+    (if_mark b (b == 61) class.EqualsSign _ (λ e. is b 61 e)
+    (if_mark b (b == 39) class.Apostrophe _ (λ e. is b 39 e) (if_mark b (b == 34) class.DoubleQuote _ (λ e. is b 34 e)
     (if_mark b (b == 58) class.Colon class.Plain (λ e. is b 58 e) tt))))))))))))
 
-by_space : (b : ℕ) (space control low letter digit : Bool) → is_space b ≡ space → nat_lt b 128 ≡ low → is_first_letter b ≡ letter → is_digit_or_dot b ≡ digit
-    → IsMark (cond space class.Space (cond control class.Control (cond low (cond letter class.Letter (cond digit class.Digit (mark_of b))) class.High))) b
+by_space : (b : ℕ) (space control low letter digit : Bool) → is_space b ≡ space → nat_lt b 128 ≡ low → is_first_letter b ≡ letter
+    → is_digit_or_dot b ≡ digit
+    → IsMark (cond space class.Space (cond control class.Control
+    (cond low (cond letter class.Letter (cond digit class.Digit (mark_of b))) class.High))) b
 by_space b true control low letter digit s h l d = s
 by_space b false true low letter digit s h l d = tt
 by_space b false false true true digit s h l d = l
@@ -113,7 +119,9 @@ character_kind b k e n = by (is_space b) (nat_lt b 32) refl refl e
     white false y z l p q r s = s
 
     by : (space control : Bool) → is_space b ≡ space → nat_lt b 32 ≡ control
-        → cond space class.Space (cond control class.Control (cond (nat_lt b 128) (cond (is_first_letter b) class.Letter (cond (is_digit_or_dot b) class.Digit (mark_of b))) class.High)) ≡ k → is_character b ≡ true
+        → cond space class.Space (cond control class.Control
+        (cond (nat_lt b 128) (cond (is_first_letter b) class.Letter (cond (is_digit_or_dot b) class.Digit (mark_of b))) class.High)) ≡ k
+        → is_character b ≡ true
     by true true s c e = rw c (white (b == 32) (b == 9) (b == 10) c refl refl refl s)
     by true false s c e = rw c refl
     by false true s c e = absurd (subst IsNoControl (sym e) n)

@@ -62,10 +62,12 @@ whole_by : (prefix local : List ℕ) (b : ℕ) → IsPart (raw prefix local) →
 whole_by prefix [] b p = tt
 whole_by prefix (x ∷ xs) b p = (refl, p)
 
-letter_by : (prefix local : List ℕ) (b : ℕ) → IsPart (raw prefix local) → is_first_letter b ≡ true → Grows (raw prefix local) b (lettered (raw prefix local) b)
+letter_by : (prefix local : List ℕ) (b : ℕ) → IsPart (raw prefix local) → is_first_letter b ≡ true
+    → Grows (raw prefix local) b (lettered (raw prefix local) b)
 letter_by prefix local b p l = ((p.0, begun_more local b p.1 l), sym (spelled_more prefix local b))
 
-other_by : (prefix local : List ℕ) (b : ℕ) → IsPart (raw prefix local) → is_name_letter b ≡ true → Grows (raw prefix local) b (unlettered (raw prefix local) b)
+other_by : (prefix local : List ℕ) (b : ℕ) → IsPart (raw prefix local) → is_name_letter b ≡ true
+    → Grows (raw prefix local) b (unlettered (raw prefix local) b)
 other_by prefix [] b p l = tt
 other_by prefix (x ∷ xs) b p l = ((p.0, (p.1.0, each_snoc xs b p.1.1 l)), sym (spelled_more prefix (x ∷ xs) b))
 
@@ -74,7 +76,8 @@ colon_by prefix [] b p e = tt
 colon_by [] (x ∷ xs) b p e = ((p.1, tt), ap (λ c. x ∷ (xs ++ c ∷ [])) (sym e))
 colon_by (q ∷ qs) (x ∷ xs) b p e = tt
 
-grows_by : (prefix local : List ℕ) (b : ℕ) (k : Class) → IsMark k b → IsPart (raw prefix local) → Grows (raw prefix local) b (grown (raw prefix local) b k)
+grows_by : (prefix local : List ℕ) (b : ℕ) (k : Class) → IsMark k b → IsPart (raw prefix local)
+    → Grows (raw prefix local) b (grown (raw prefix local) b k)
 grows_by prefix local b class.Letter m p = letter_by prefix local b p m
 grows_by prefix local b class.Digit m p = other_by prefix local b p (digit_letter b m)
 grows_by prefix local b class.Hyphen m p = other_by prefix local b p (hyphen_letter b m)
@@ -92,10 +95,20 @@ grows name b p = grows_by name.prefix name.local b (class_of b) (mark_of_kind b 
 
 -- more bytes of the name, and then what follows it
 abbrev pub LeadsName : RawName → (RawName → List ℕ → Type 0) → List ℕ → Type 0
-LeadsName name After bs = (full : RawName) × (more : List ℕ) × (rest : List ℕ) × IsName full × (spelled full ≡ spelled name ++ more) × (bs ≡ more ++ rest) × After full rest
+LeadsName name After bs = (full : RawName) × (more : List ℕ) × (rest : List ℕ) × IsName full × (spelled full ≡ spelled name ++ more)
+    × (bs ≡ more ++ rest) × After full rest
 
-pub name_more : (name next : RawName) (After : RawName → List ℕ → Type 0) (b : ℕ) (bs : List ℕ) → spelled next ≡ spelled name ++ b ∷ [] → LeadsName next After bs → LeadsName name After (b ∷ bs)
-name_more name next After b bs e l = (l.0, b ∷ l.1, l.2, l.3, l.4 ∙ ap (λ x. x ++ l.1) e ∙ append_assoc (spelled name) (b ∷ []) l.1, ap (λ x. b ∷ x) l.5, l.6)
+pub name_more : (name next : RawName) (After : RawName → List ℕ → Type 0) (b : ℕ) (bs : List ℕ) → spelled next ≡ spelled name ++ b ∷ []
+    → LeadsName next After bs → LeadsName name After (b ∷ bs)
+name_more name next After b bs e l = (
+  l.0,
+  b ∷ l.1,
+  l.2,
+  l.3,
+  l.4 ∙ ap (λ x. x ++ l.1) e ∙ append_assoc (spelled name) (b ∷ []) l.1,
+  ap (λ x. b ∷ x) l.5,
+  l.6,
+)
 
 pub name_whole : (name : RawName) (After : RawName → List ℕ → Type 0) (bs : List ℕ) → IsName name → After name bs → LeadsName name After bs
 name_whole name After bs n a = (name, [], bs, n, sym (append-nil (spelled name)), refl, a)

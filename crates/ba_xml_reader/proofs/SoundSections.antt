@@ -9,7 +9,8 @@ use Rattle.ba_xml_reader.proofs.CompleteContent.{brackets, section_word, bracket
 
 -- behind these bytes of a section and so many brackets
 abbrev pub LeadsSection : List ℕ → Seen → (List ℕ → List ℕ → Type 0) → List ℕ → Type 0
-LeadsSection acc seen After bs = (more : List ℕ) × (rest : List ℕ) × IsSection more × (brackets seen bs ≡ more ++ 93 ∷ 93 ∷ 62 ∷ rest) × After (acc ++ more) rest
+LeadsSection acc seen After bs = (more : List ℕ) × (rest : List ℕ) × IsSection more × (brackets seen bs ≡ more ++ 93 ∷ 93 ∷ 62 ∷ rest)
+    × After (acc ++ more) rest
 
 head_same : (x y : ℕ) (xs ys : List ℕ) → x ∷ xs ≡ y ∷ ys → x ≡ y
 head_same x y xs ys e = cc
@@ -18,7 +19,8 @@ tail_same : (x y : ℕ) (xs ys : List ℕ) → x ∷ xs ≡ y ∷ ys → xs ≡ 
 tail_same x y xs ys e = cc
 
 -- a third bracket makes the first one the section's
-pub section_third : (acc : List ℕ) (After : List ℕ → List ℕ → Type 0) (bs : List ℕ) → LeadsSection (acc ++ 93 ∷ []) Two After bs → LeadsSection acc Two After (93 ∷ bs)
+pub section_third : (acc : List ℕ) (After : List ℕ → List ℕ → Type 0) (bs : List ℕ) → LeadsSection (acc ++ 93 ∷ []) Two After bs
+    → LeadsSection acc Two After (93 ∷ bs)
 section_third acc After bs l = (
   93 ∷ l.0,
   l.1,
@@ -32,7 +34,8 @@ section_third acc After bs l = (
 
     no_end : (rest : List ℕ) → 93 ∷ l.0 ≡ 93 ∷ 93 ∷ 62 ∷ rest → ⊥
     no_end rest e = clash (rest ++ 93 ∷ 93 ∷ 62 ∷ l.1) bs
-        (tail_same 93 93 (93 ∷ bs) (62 ∷ (rest ++ 93 ∷ 93 ∷ 62 ∷ l.1)) (l.3 ∙ ap (λ m. m ++ 93 ∷ 93 ∷ 62 ∷ l.1) (tail_same 93 93 l.0 (93 ∷ 62 ∷ rest) e)))
+        (tail_same 93 93 (93 ∷ bs) (62 ∷ (rest ++ 93 ∷ 93 ∷ 62 ∷ l.1))
+        (l.3 ∙ ap (λ m. m ++ 93 ∷ 93 ∷ 62 ∷ l.1) (tail_same 93 93 l.0 (93 ∷ 62 ∷ rest) e)))
 
 no_bracket : (b : ℕ) (bs word : List ℕ) → (b ≡ 93 → ⊥) → IsFront (93 ∷ word) (b ∷ bs) → ⊥
 no_bracket b bs word n f = n (head_same b 93 bs (word ++ f.0) f.1)
@@ -44,13 +47,15 @@ no_third : (b : ℕ) (bs : List ℕ) → (b ≡ 62 → ⊥) → IsFront section_
 no_third b bs n f = n (head_same b 62 bs f.0 (tail_same 93 93 (b ∷ bs) (62 ∷ f.0) (tail_same 93 93 (93 ∷ b ∷ bs) (93 ∷ 62 ∷ f.0) f.1)))
 
 -- brackets and then another byte don't end a section
-pub nowhere_brackets : (seen : Seen) (b : ℕ) (more : List ℕ) → (b ≡ 93 → ⊥) → (seen ≡ Two → b ≡ 62 → ⊥) → Nowhere section_word more → Nowhere section_word (brackets seen (b ∷ more))
+pub nowhere_brackets : (seen : Seen) (b : ℕ) (more : List ℕ) → (b ≡ 93 → ⊥) → (seen ≡ Two → b ≡ 62 → ⊥) → Nowhere section_word more
+    → Nowhere section_word (brackets seen (b ∷ more))
 nowhere_brackets Zero b more nb ng s = (no_bracket b more (93 ∷ 62 ∷ []) nb, s)
 nowhere_brackets One b more nb ng s = (no_second b more (62 ∷ []) nb, (no_bracket b more (93 ∷ 62 ∷ []) nb, s))
 nowhere_brackets Two b more nb ng s = (no_third b more (ng refl), (no_second b more (62 ∷ []) nb, (no_bracket b more (93 ∷ 62 ∷ []) nb, s)))
 
 -- brackets and then another byte are a section's
-brackets_section : (seen : Seen) (b : ℕ) (more : List ℕ) → is_character b ≡ true → (b ≡ 93 → ⊥) → (seen ≡ Two → b ≡ 62 → ⊥) → IsSection more → IsSection (brackets seen (b ∷ more))
+brackets_section : (seen : Seen) (b : ℕ) (more : List ℕ) → is_character b ≡ true → (b ≡ 93 → ⊥) → (seen ≡ Two → b ≡ 62 → ⊥) → IsSection more
+    → IsSection (brackets seen (b ∷ more))
 brackets_section Zero b more c nb ng s = ((c, s.0), nowhere_brackets Zero b more nb ng s.1)
 brackets_section One b more c nb ng s = ((refl, (c, s.0)), nowhere_brackets One b more nb ng s.1)
 brackets_section Two b more c nb ng s = ((refl, (refl, (c, s.0))), nowhere_brackets Two b more nb ng s.1)
@@ -62,7 +67,8 @@ nowhere_third more n = (no_third 93 more three, n)
     three : ◌≡◌ {A = ℕ} 93 62 → ⊥
     three e = true≢false (ap (λ x. x == 93) e)
 
-brackets_joined : (seen : Seen) (b : ℕ) (bs more rest : List ℕ) → bs ≡ more ++ rest → brackets seen (b ∷ bs) ≡ brackets seen (b ∷ more) ++ rest
+brackets_joined : (seen : Seen) (b : ℕ) (bs more rest : List ℕ) → bs ≡ more ++ rest
+    → brackets seen (b ∷ bs) ≡ brackets seen (b ∷ more) ++ rest
 brackets_joined Zero b bs more rest e = ap (λ x. b ∷ x) e
 brackets_joined One b bs more rest e = ap (λ x. 93 ∷ b ∷ x) e
 brackets_joined Two b bs more rest e = ap (λ x. 93 ∷ 93 ∷ b ∷ x) e
@@ -72,7 +78,8 @@ same_held Zero = refl
 same_held One = refl
 same_held Two = refl
 
-pub section_character : (acc : List ℕ) (seen : Seen) (After : List ℕ → List ℕ → Type 0) (b : ℕ) (bs : List ℕ) → is_character b ≡ true → (b ≡ 93 → ⊥) → (seen ≡ Two → b ≡ 62 → ⊥)
+pub section_character : (acc : List ℕ) (seen : Seen) (After : List ℕ → List ℕ → Type 0) (b : ℕ) (bs : List ℕ) → is_character b ≡ true
+    → (b ≡ 93 → ⊥) → (seen ≡ Two → b ≡ 62 → ⊥)
     → LeadsSection ((acc ++ held seen) ++ b ∷ []) Zero After bs → LeadsSection acc seen After (b ∷ bs)
 section_character acc seen After b bs c nb ng l = (
   brackets seen (b ∷ l.0),
@@ -80,7 +87,8 @@ section_character acc seen After b bs c nb ng l = (
   brackets_section seen b l.0 c nb ng l.2,
   brackets_joined seen b bs l.0 (93 ∷ 93 ∷ 62 ∷ l.1) l.3,
   subst (λ a. After a l.1)
-      (append_assoc (acc ++ held seen) (b ∷ []) l.0 ∙ append_assoc acc (held seen) (b ∷ l.0) ∙ ap (λ h. acc ++ (h ++ b ∷ l.0)) (same_held seen) ∙ ap (λ x. acc ++ x) (brackets_before seen (b ∷ l.0))) l.4,
+      (append_assoc (acc ++ held seen) (b ∷ []) l.0 ∙ append_assoc acc (held seen) (b ∷ l.0)
+      ∙ ap (λ h. acc ++ (h ++ b ∷ l.0)) (same_held seen) ∙ ap (λ x. acc ++ x) (brackets_before seen (b ∷ l.0))) l.4,
 )
 
 -- the end

@@ -1,9 +1,11 @@
 -- One byte backward in each state behind the declaration, and so all bytes: what the states read to a tree is of the grammar.
-use Rattle.std.proofs.Common.{◌≡◌, ℕ, Bool, true, false, cond, ◌==◌, nat_lt, Option, Some, None, List, [], ◌∷◌, ◌++◌, length, refl, sym, ap, subst, ◌∙◌}
+use Rattle.std.proofs.Common.{◌≡◌, ℕ, Bool, true, false, cond, ◌==◌, nat_lt, Option, Some, None, List, [], ◌∷◌, ◌++◌, length, refl, sym, ap}
+use Rattle.std.proofs.Common.{subst, ◌∙◌}
 use Rattle.std.proofs.lemmas.Bool.{ltb-true, eqb-true}
 use Rattle.ba_tree.specs.declared.trees.Content.{Content}
 use Rattle.ba_tree.specs.declared.trees.Tree.{Tree}
-use Rattle.ba_xml_reader.proofs.SoundAttributes.{in_tag_back, tag_name_back, equals_back, attribute_name_back, quote_back, value_back, value_reference_back}
+use Rattle.ba_xml_reader.proofs.SoundAttributes.{in_tag_back, tag_name_back, equals_back, attribute_name_back, quote_back, value_back}
+use Rattle.ba_xml_reader.proofs.SoundAttributes.{value_reference_back}
 use Rattle.ba_xml_reader.proofs.SoundContent.{comment_back, section_back, bracketed_back, reference_back, within_by}
 use Rattle.ba_xml_reader.proofs.SoundElements.{Stands, tag_stands}
 use Rattle.ba_xml_reader.proofs.SoundKinds.{IsMark, mark_told}
@@ -11,7 +13,8 @@ use Rattle.ba_xml_reader.proofs.SoundLeads.{LeadsEnd, Leads, Goes}
 use Rattle.ba_xml_reader.proofs.SoundPieces.{Outside, Follows, comment_follows, space_follows, section_follows, end_follows}
 use Rattle.ba_xml_reader.proofs.CompleteSteps.{steps, none, one}
 use Rattle.ba_xml_words.specs.Classes.{class_of}
-use Rattle.ba_xml_reader.specs.inside.Content.{open_after, starting_at, below, ending_at, inside_at, inside_after, outside_after, exclaimed_after, section_at, hyphened_after}
+use Rattle.ba_xml_reader.specs.inside.Content.{open_after, starting_at, below, ending_at, inside_at, inside_after, outside_after}
+use Rattle.ba_xml_reader.specs.inside.Content.{exclaimed_after, section_at, hyphened_after}
 use Rattle.ba_xml_names.specs.inside.Levels.{place_of, place_outside}
 use Rattle.ba_xml_reader.specs.inside.Machine.{root_of, act, state_after, ended_at}
 use Rattle.ba_xml_words.specs.inside.Names.{one_letter}
@@ -32,31 +35,38 @@ use Rattle.ba_xml_reader.specs.declared.states.State.TheVariants.{Refused, At}
 
 -- ---- between tags
 
-outside_back : (here : Level) (seen : Seen) (t : Tree) (b : ℕ) (bs : List ℕ) (k : Class) → IsMark k b → Goes (outside_after [] here k) bs t → Follows [] here seen (b ∷ bs) t
+outside_back : (here : Level) (seen : Seen) (t : Tree) (b : ℕ) (bs : List ℕ) (k : Class) → IsMark k b → Goes (outside_after [] here k) bs t
+    → Follows [] here seen (b ∷ bs) t
 outside_back here seen t b bs class.Space m g = space_follows here seen Zero t b bs m g
 outside_back here seen t b bs class.Less m g = subst (λ x. Follows [] here seen (x ∷ bs) t) (sym m) (g seen)
 outside_back here seen t b bs _ m g = absurd g
 
-outside_at : (content : List Content) (here : Level) (seen : Seen) (t : Tree) (b : ℕ) (bs : List ℕ) (k : Class) → IsMark k b → Goes (inside_at (place_outside content) [] here seen b k) bs t → Follows [] here seen (b ∷ bs) t
+outside_at : (content : List Content) (here : Level) (seen : Seen) (t : Tree) (b : ℕ) (bs : List ℕ) (k : Class) → IsMark k b
+    → Goes (inside_at (place_outside content) [] here seen b k) bs t → Follows [] here seen (b ∷ bs) t
 outside_at [] here seen t b bs k m g = outside_back here seen t b bs k m g
 outside_at (c ∷ cs) here seen t b bs k m g = outside_back here seen t b bs k m g
 
-inside_back : (outer : List Level) (here : Level) (seen : Seen) (t : Tree) (b : ℕ) (bs : List ℕ) (k : Class) → class_of b ≡ k → IsMark k b → Goes (inside_after outer here seen b k) bs t → Follows outer here seen (b ∷ bs) t
+inside_back : (outer : List Level) (here : Level) (seen : Seen) (t : Tree) (b : ℕ) (bs : List ℕ) (k : Class) → class_of b ≡ k → IsMark k b
+    → Goes (inside_after outer here seen b k) bs t → Follows outer here seen (b ∷ bs) t
 inside_back [] here seen t b bs k e m g = outside_at here.content here seen t b bs k m g
 inside_back (parent ∷ above) here seen t b bs k e m g = within_by parent above here seen t b bs k e m g
 
-below_back : (outer : List Level) (here : Level) (t : Tree) (b : ℕ) (bs : List ℕ) → IsMark class.Letter b → Goes (below outer here b) bs t → Stands outer here (60 ∷ b ∷ bs) t
+below_back : (outer : List Level) (here : Level) (t : Tree) (b : ℕ) (bs : List ℕ) → IsMark class.Letter b → Goes (below outer here b) bs t
+    → Stands outer here (60 ∷ b ∷ bs) t
 below_back outer here t b bs m g = by (nat_lt (length outer) 32) refl g
   where
-    by : (q : Bool) → nat_lt (length outer) 32 ≡ q → Goes (cond q (At outer here (mode.TagName (one_letter b))) (Refused Depth)) bs t → Stands outer here (60 ∷ b ∷ bs) t
+    by : (q : Bool) → nat_lt (length outer) 32 ≡ q → Goes (cond q (At outer here (mode.TagName (one_letter b))) (Refused Depth)) bs t
+        → Stands outer here (60 ∷ b ∷ bs) t
     by true q g = tag_stands outer here t b bs (ltb-true (length outer) 32 q) (g (tt, (m, tt)))
     by false q g = absurd g
 
-root_back : (content : List Content) (here : Level) (t : Tree) (b : ℕ) (bs : List ℕ) → IsMark class.Letter b → Goes (starting_at (place_outside content) [] here b) bs t → Outside here content (60 ∷ b ∷ bs) t
+root_back : (content : List Content) (here : Level) (t : Tree) (b : ℕ) (bs : List ℕ) → IsMark class.Letter b
+    → Goes (starting_at (place_outside content) [] here b) bs t → Outside here content (60 ∷ b ∷ bs) t
 root_back [] here t b bs m g = (misc_end, 60 ∷ b ∷ bs, tt, refl, below_back [] here t b bs m g)
 root_back (c ∷ cs) here t b bs m g = absurd g
 
-start_back : (outer : List Level) (here : Level) (seen : Seen) (t : Tree) (b : ℕ) (bs : List ℕ) → IsMark class.Letter b → Goes (starting_at (place_of outer here) outer here b) bs t → Follows outer here seen (60 ∷ b ∷ bs) t
+start_back : (outer : List Level) (here : Level) (seen : Seen) (t : Tree) (b : ℕ) (bs : List ℕ) → IsMark class.Letter b
+    → Goes (starting_at (place_of outer here) outer here b) bs t → Follows outer here seen (60 ∷ b ∷ bs) t
 start_back [] here seen t b bs m g = root_back here.content here t b bs m g
 start_back (parent ∷ above) here seen t b bs m g = below_back (parent ∷ above) here t b bs m g seen
 
@@ -64,13 +74,16 @@ no_end : (content : List Content) (here : Level) (t : Tree) (bs : List ℕ) → 
 no_end [] here t bs g = g
 no_end (c ∷ cs) here t bs g = g
 
-end_back : (outer : List Level) (here : Level) (seen : Seen) (t : Tree) (bs : List ℕ) → Goes (ending_at (place_of outer here) outer here) bs t → Follows outer here seen (60 ∷ 47 ∷ bs) t
+end_back : (outer : List Level) (here : Level) (seen : Seen) (t : Tree) (bs : List ℕ)
+    → Goes (ending_at (place_of outer here) outer here) bs t → Follows outer here seen (60 ∷ 47 ∷ bs) t
 end_back [] here seen t bs g = absurd (no_end here.content here t bs g)
 end_back (parent ∷ above) here seen t bs g = end_follows parent above here seen t bs g.0 g.1 g.2 g.3 g.4
 
-pub open_back : (outer : List Level) (here : Level) (t : Tree) (b : ℕ) (bs : List ℕ) (k : Class) → IsMark k b → Goes (open_after outer here b k) bs t → Leads outer here mode.Open (b ∷ bs) t
+pub open_back : (outer : List Level) (here : Level) (t : Tree) (b : ℕ) (bs : List ℕ) (k : Class) → IsMark k b
+    → Goes (open_after outer here b k) bs t → Leads outer here mode.Open (b ∷ bs) t
 open_back outer here t b bs class.Exclamation m g = λ seen. subst (λ x. Follows outer here seen (60 ∷ x ∷ bs) t) (sym m) (g seen)
-open_back outer here t b bs class.Slash m g = λ seen. subst (λ x. Follows outer here seen (60 ∷ x ∷ bs) t) (sym m) (end_back outer here seen t bs g)
+open_back outer here t b bs class.Slash m g =
+    λ seen. subst (λ x. Follows outer here seen (60 ∷ x ∷ bs) t) (sym m) (end_back outer here seen t bs g)
 open_back outer here t b bs class.Letter m g = λ seen. start_back outer here seen t b bs m g
 open_back outer here t b bs _ m g = absurd g
 
@@ -78,58 +91,74 @@ no_section : (content : List Content) (here : Level) (t : Tree) (bs : List ℕ) 
 no_section [] here t bs g = g
 no_section (c ∷ cs) here t bs g = g
 
-bracket_back : (outer : List Level) (here : Level) (seen : Seen) (t : Tree) (bs : List ℕ) → Goes (section_at (place_of outer here) outer here) bs t → Follows outer here seen (60 ∷ 33 ∷ 91 ∷ bs) t
+bracket_back : (outer : List Level) (here : Level) (seen : Seen) (t : Tree) (bs : List ℕ)
+    → Goes (section_at (place_of outer here) outer here) bs t → Follows outer here seen (60 ∷ 33 ∷ 91 ∷ bs) t
 bracket_back [] here seen t bs g = absurd (no_section here.content here t bs g)
-bracket_back (parent ∷ above) here seen t bs g = subst (λ x. Follows (parent ∷ above) here seen (60 ∷ 33 ∷ 91 ∷ x) t) (sym g.1) (section_follows parent above here seen t g.0 g.2)
+bracket_back (parent ∷ above) here seen t bs g =
+    subst (λ x. Follows (parent ∷ above) here seen (60 ∷ 33 ∷ 91 ∷ x) t) (sym g.1) (section_follows parent above here seen t g.0 g.2)
 
-exclaimed_back : (outer : List Level) (here : Level) (t : Tree) (b : ℕ) (bs : List ℕ) (k : Class) → IsMark k b → Goes (exclaimed_after outer here k) bs t → Leads outer here mode.Exclaimed (b ∷ bs) t
+exclaimed_back : (outer : List Level) (here : Level) (t : Tree) (b : ℕ) (bs : List ℕ) (k : Class) → IsMark k b
+    → Goes (exclaimed_after outer here k) bs t → Leads outer here mode.Exclaimed (b ∷ bs) t
 exclaimed_back outer here t b bs class.Hyphen m g = λ seen. subst (λ x. Follows outer here seen (60 ∷ 33 ∷ x ∷ bs) t) (sym m) (g seen)
-exclaimed_back outer here t b bs class.OpenBracket m g = λ seen. subst (λ x. Follows outer here seen (60 ∷ 33 ∷ x ∷ bs) t) (sym m) (bracket_back outer here seen t bs g)
+exclaimed_back outer here t b bs class.OpenBracket m g =
+    λ seen. subst (λ x. Follows outer here seen (60 ∷ 33 ∷ x ∷ bs) t) (sym m) (bracket_back outer here seen t bs g)
 exclaimed_back outer here t b bs _ m g = absurd g
 
-hyphened_back : (outer : List Level) (here : Level) (t : Tree) (b : ℕ) (bs : List ℕ) (k : Class) → IsMark k b → Goes (hyphened_after outer here k) bs t → Leads outer here mode.Hyphened (b ∷ bs) t
-hyphened_back outer here t b bs class.Hyphen m g = λ seen. subst (λ x. Follows outer here seen (60 ∷ 33 ∷ 45 ∷ x ∷ bs) t) (sym m) (comment_follows outer here seen t bs g)
+hyphened_back : (outer : List Level) (here : Level) (t : Tree) (b : ℕ) (bs : List ℕ) (k : Class) → IsMark k b
+    → Goes (hyphened_after outer here k) bs t → Leads outer here mode.Hyphened (b ∷ bs) t
+hyphened_back outer here t b bs class.Hyphen m g =
+    λ seen. subst (λ x. Follows outer here seen (60 ∷ 33 ∷ 45 ∷ x ∷ bs) t) (sym m) (comment_follows outer here seen t bs g)
 hyphened_back outer here t b bs _ m g = absurd g
 
-slashed_back : (outer : List Level) (here : Level) (t : Tree) (o : Opening) (b : ℕ) (bs : List ℕ) (k : Class) → IsMark k b → Goes (slashed_after outer here o k) bs t → Leads outer here (mode.Slashed o) (b ∷ bs) t
+slashed_back : (outer : List Level) (here : Level) (t : Tree) (o : Opening) (b : ℕ) (bs : List ℕ) (k : Class) → IsMark k b
+    → Goes (slashed_after outer here o k) bs t → Leads outer here (mode.Slashed o) (b ∷ bs) t
 slashed_back outer here t o b bs class.Greater m g = (bs, ap (λ x. x ∷ bs) m, g)
 slashed_back outer here t o b bs _ m g = absurd g
 
 -- ---- end tags
 
-end_more : (outer : List Level) (here : Level) (t : Tree) (x b : ℕ) (name bs : List ℕ) → x ≡ b → LeadsEnd outer here t name bs → LeadsEnd outer here t (x ∷ name) (b ∷ bs)
+end_more : (outer : List Level) (here : Level) (t : Tree) (x b : ℕ) (name bs : List ℕ) → x ≡ b → LeadsEnd outer here t name bs
+    → LeadsEnd outer here t (x ∷ name) (b ∷ bs)
 end_more [] here t x b name bs e l = absurd l
-end_more (parent ∷ above) here t x b name bs e l = (l.0, l.1, l.2, ap (λ y. b ∷ y) l.3 ∙ ap (λ y. y ∷ (name ++ (l.0 ++ 62 ∷ l.1))) (sym e), l.4)
+end_more (parent ∷ above) here t x b name bs e l =
+    (l.0, l.1, l.2, ap (λ y. b ∷ y) l.3 ∙ ap (λ y. y ∷ (name ++ (l.0 ++ 62 ∷ l.1))) (sym e), l.4)
 
-end_name_back : (outer : List Level) (here : Level) (t : Tree) (name : List ℕ) (b : ℕ) (bs : List ℕ) → Goes (end_name_after outer here name b) bs t → LeadsEnd outer here t name (b ∷ bs)
+end_name_back : (outer : List Level) (here : Level) (t : Tree) (name : List ℕ) (b : ℕ) (bs : List ℕ)
+    → Goes (end_name_after outer here name b) bs t → LeadsEnd outer here t name (b ∷ bs)
 end_name_back outer here t [] b bs g = absurd g
 end_name_back outer here t (x ∷ []) b bs g = by (x == b) refl g
   where
-    by : (q : Bool) → (x == b) ≡ q → Goes (end_name_by outer here (cond q meeting.Whole meeting.Wrong)) bs t → LeadsEnd outer here t (x ∷ []) (b ∷ bs)
+    by : (q : Bool) → (x == b) ≡ q → Goes (end_name_by outer here (cond q meeting.Whole meeting.Wrong)) bs t
+        → LeadsEnd outer here t (x ∷ []) (b ∷ bs)
     by true q g = end_more outer here t x b [] bs (eqb-true x b q) g
     by false q g = absurd g
 end_name_back outer here t (x ∷ y ∷ more) b bs g = by (x == b) refl g
   where
-    by : (q : Bool) → (x == b) ≡ q → Goes (end_name_by outer here (cond q (meeting.On (y ∷ more)) meeting.Wrong)) bs t → LeadsEnd outer here t (x ∷ y ∷ more) (b ∷ bs)
+    by : (q : Bool) → (x == b) ≡ q → Goes (end_name_by outer here (cond q (meeting.On (y ∷ more)) meeting.Wrong)) bs t
+        → LeadsEnd outer here t (x ∷ y ∷ more) (b ∷ bs)
     by true q g = end_more outer here t x b (y ∷ more) bs (eqb-true x b q) g
     by false q g = absurd g
 
-end_white : (outer : List Level) (here : Level) (t : Tree) (b : ℕ) (bs : List ℕ) → IsMark class.Space b → LeadsEnd outer here t [] bs → LeadsEnd outer here t [] (b ∷ bs)
+end_white : (outer : List Level) (here : Level) (t : Tree) (b : ℕ) (bs : List ℕ) → IsMark class.Space b → LeadsEnd outer here t [] bs
+    → LeadsEnd outer here t [] (b ∷ bs)
 end_white [] here t b bs m l = absurd l
 end_white (parent ∷ above) here t b bs m l = (b ∷ l.0, l.1, (m, l.2), ap (λ y. b ∷ y) l.3, l.4)
 
-closed_back : (outer : List Level) (here : Level) (t : Tree) (bs : List ℕ) → Goes (closed outer here) bs t → LeadsEnd outer here t [] (62 ∷ bs)
+closed_back : (outer : List Level) (here : Level) (t : Tree) (bs : List ℕ) → Goes (closed outer here) bs t
+    → LeadsEnd outer here t [] (62 ∷ bs)
 closed_back [] here t bs g = absurd g
 closed_back (parent ∷ above) here t bs g = ([], bs, tt, refl, g)
 
-end_space_back : (outer : List Level) (here : Level) (t : Tree) (b : ℕ) (bs : List ℕ) (k : Class) → IsMark k b → Goes (end_space_after outer here k) bs t → LeadsEnd outer here t [] (b ∷ bs)
+end_space_back : (outer : List Level) (here : Level) (t : Tree) (b : ℕ) (bs : List ℕ) (k : Class) → IsMark k b
+    → Goes (end_space_after outer here k) bs t → LeadsEnd outer here t [] (b ∷ bs)
 end_space_back outer here t b bs class.Space m g = end_white outer here t b bs m g
 end_space_back outer here t b bs class.Greater m g = subst (λ x. LeadsEnd outer here t [] (x ∷ bs)) (sym m) (closed_back outer here t bs g)
 end_space_back outer here t b bs _ m g = absurd g
 
 -- ---- each state
 
-pub goes_back : (outer : List Level) (here : Level) (m : Mode) (b : ℕ) (bs : List ℕ) (t : Tree) → Goes (act outer here m b) bs t → Leads outer here m (b ∷ bs) t
+pub goes_back : (outer : List Level) (here : Level) (m : Mode) (b : ℕ) (bs : List ℕ) (t : Tree) → Goes (act outer here m b) bs t
+    → Leads outer here m (b ∷ bs) t
 goes_back outer here mode.Begin b bs t g = tt
 goes_back outer here mode.MarkOne b bs t g = tt
 goes_back outer here mode.MarkTwo b bs t g = tt

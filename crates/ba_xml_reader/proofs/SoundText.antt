@@ -1,5 +1,6 @@
 -- What is read is of characters: the raw bytes of a document are the UTF-8 of legal ones.
-use Rattle.std.proofs.Common.{◌≡◌, ℕ, ◌<◌, ◌==◌, Bool, true, false, cond, not, ◌&&◌, ◌||◌, ◌⊎◌, inl, inr, List, [], ◌∷◌, refl, sym, ap, ◌∙◌, subst, arith}
+use Rattle.std.proofs.Common.{◌≡◌, ℕ, ◌<◌, ◌==◌, Bool, true, false, cond, not, ◌&&◌, ◌||◌, ◌⊎◌, inl, inr, List, [], ◌∷◌, refl, sym, ap, ◌∙◌}
+use Rattle.std.proofs.Common.{subst, arith}
 use Rattle.std.proofs.lemmas.Bool.{eqb-true, and_parts, false≢true, lt-ltb, ne_eqb, agree_below_at}
 use Rattle.ba_tree.specs.Characters.{is_legal}
 use Rattle.ba_tree.specs.declared.trees.Tree.{Tree}
@@ -13,7 +14,8 @@ use Rattle.ba_xml_grammar.specs.GrammarWords.{is_character}
 use Rattle.ba_xml_words.specs.inside.Octets.{octet_after}
 use Rattle.ba_xml_words.specs.declared.faults.Reason.TheVariants.{NotUtf8}
 use Rattle.ba_xml_words.specs.declared.octets.Octet.{Octet}
-use Rattle.ba_xml_words.specs.declared.octets.Octet.TheVariants.{Between, One, Two, Three, AfterE0, AfterED, AfterEF, AfterEFBF, AfterF0, AfterF4}
+use Rattle.ba_xml_words.specs.declared.octets.Octet.TheVariants.{Between, One, Two, Three, AfterE0, AfterED, AfterEF, AfterEFBF, AfterF0}
+use Rattle.ba_xml_words.specs.declared.octets.Octet.TheVariants.{AfterF4}
 use Rattle.ba_xml_words.specs.declared.octets.Decoding.{Decoding}
 use Rattle.ba_xml_words.specs.declared.octets.Decoding.TheVariants.{At, Broken}
 
@@ -37,7 +39,10 @@ lines_back [] returned f = (tt, tt)
 lines_back (b ∷ bs) returned f = by (λ r g. lines_back bs r g) (returned && b == 10) (b == 13) refl refl f
   where
     at : (n : ℕ) → n < 0x80 → is_legal n ≡ true → (b == n) ≡ true → AreLow bs × EndsLow bs → AreLow (b ∷ bs) × EndsLow (b ∷ bs)
-    at n l c e r = ((λ h. subst (λ x. is_legal x ≡ true) (sym (eqb-true b n e)) c, r.0), (λ h. subst (λ x. x < 0x80) (sym (eqb-true b n e)) l, r.1))
+    at n l c e r = (
+      (λ h. subst (λ x. is_legal x ≡ true) (sym (eqb-true b n e)) c, r.0),
+      (λ h. subst (λ x. x < 0x80) (sym (eqb-true b n e)) l, r.1),
+    )
 
     by : ((r : Bool) → Fine (lines r bs) → AreLow bs × EndsLow bs) → (x y : Bool) → (returned && b == 10) ≡ x → (b == 13) ≡ y
         → Fine (cond x (lines false bs) (cond y (10 ∷ lines true bs) (b ∷ lines false bs))) → AreLow (b ∷ bs) × EndsLow (b ∷ bs)
@@ -56,7 +61,11 @@ after_low Three b h = inr (rw (lt-ltb b 0x80 h) refl)
 after_low AfterE0 b h = inr (rw (lt-ltb b 0xA0 (omega (arith, h))) refl)
 after_low AfterED b h = inr (rw (lt-ltb b 0x80 h) refl)
 after_low AfterEF b h = inr (rw (ne_eqb b 0xBF (λ e. omega (arith, e, h)), lt-ltb b 0x80 h) refl)
-after_low AfterEFBF b h = inr (rw (ne_eqb b 0xBE (λ e. omega (arith, e, h)), ne_eqb b 0xBF (λ e. omega (arith, e, h)), lt-ltb b 0x80 h) refl)
+after_low AfterEFBF b h = inr (rw (
+  ne_eqb b 0xBE (λ e. omega (arith, e, h)),
+  ne_eqb b 0xBF (λ e. omega (arith, e, h)),
+  lt-ltb b 0x80 h,
+) refl)
 after_low AfterF0 b h = inr (rw (lt-ltb b 0x90 (omega (arith, h))) refl)
 after_low AfterF4 b h = inr (rw (lt-ltb b 0x80 h) refl)
 
@@ -70,18 +79,21 @@ low_between o p b h e = by (after_low o b h)
     by (inl q) = same_octet p Between (sym e ∙ q)
     by (inr q) = absurd (clash (sym q ∙ e))
 
-ends_between : (bytes : List ℕ) (o last : Octet) → EndsLow bytes → octets (At o) bytes ≡ At last → (bytes ≡ [] → o ≡ Between) → last ≡ Between
+ends_between : (bytes : List ℕ) (o last : Octet) → EndsLow bytes → octets (At o) bytes ≡ At last → (bytes ≡ [] → o ≡ Between)
+    → last ≡ Between
 ends_between [] o last l e n = same_octet last o (sym e) ∙ n refl
 ends_between (b ∷ bs) o last l e n = by (λ p q r. ends_between bs p last l.1 q r) (octet_after o b) refl e
   where
-    by : ((p : Octet) → octets (At p) bs ≡ At last → (bs ≡ [] → p ≡ Between) → last ≡ Between) → (d : Decoding) → octet_after o b ≡ d → octets d bs ≡ At last → last ≡ Between
+    by : ((p : Octet) → octets (At p) bs ≡ At last → (bs ≡ [] → p ≡ Between) → last ≡ Between) → (d : Decoding) → octet_after o b ≡ d
+        → octets d bs ≡ At last → last ≡ Between
     by ih (Broken r) p e = absurd (broken r bs last e)
     by ih (At next) p e = ih next e (λ q. low_between o next b (l.0 q) p)
 
 -- ---- whole texts
 
 -- the raw bytes of a document, in which no octet is out of place
-characters_of : (bytes : List ℕ) (d : Document) (last : Octet) → IsDocument d → lines false bytes ≡ written_document d → octets (At Between) bytes ≡ At last → IsOfCharacters bytes
+characters_of : (bytes : List ℕ) (d : Document) (last : Octet) → IsDocument d → lines false bytes ≡ written_document d
+    → octets (At Between) bytes ≡ At last → IsOfCharacters bytes
 characters_of bytes d last i e o = by (lines_back bytes false (subst (λ x. Fine x) (sym e) (document_full d i).1))
   where
     by : AreLow bytes × EndsLow bytes → IsOfCharacters bytes

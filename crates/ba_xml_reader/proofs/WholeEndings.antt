@@ -1,5 +1,6 @@
 -- An end tag that is taken at once is the one that the machine takes byte by byte.
-use Rattle.std.proofs.Common.{◌≡◌, ℕ, ◌+◌, ◌-◌, ◌<◌, ◌≤◌, Bool, true, false, take, drop, List, [], ◌∷◌, ◌++◌, length, refl, sym, ap, ap₂, ◌∙◌, arith, true≢false}
+use Rattle.std.proofs.Common.{◌≡◌, ℕ, ◌+◌, ◌-◌, ◌<◌, ◌≤◌, Bool, true, false, take, drop, List, [], ◌∷◌, ◌++◌, length, refl, sym, ap, ap₂}
+use Rattle.std.proofs.Common.{◌∙◌, arith, true≢false}
 use Rattle.std.specs.List.{list_all}
 use Rattle.std.proofs.lemmas.List.{drop_all, length-take-le, length-drop, take_more}
 use Rattle.std.proofs.Math.Seq.{take-add}
@@ -79,7 +80,8 @@ module _ (parent : Level) (outer : List Level) (here : Level) where
       (by_kind (parent ∷ outer) here mode.Open 47 class.Slash slash_kind)
 
   close_turn : turned (standing mode.EndSpace) 62 ≡ turn.On ended
-  close_turn = turn_on (parent ∷ outer) outer here (with_child parent (tree_of here)) mode.EndSpace (mode.Inside Zero) 62 greater_single refl
+  close_turn = turn_on (parent ∷ outer) outer here (with_child parent (tree_of here)) mode.EndSpace (mode.Inside Zero) 62
+      greater_single refl
       (by_kind (parent ∷ outer) here mode.EndSpace 62 class.Greater greater_kind)
 
   text_runs : (seen : Seen) (name : List ℕ) (taken : ℕ) → 0 < length here.spelled → length name ≡ length here.spelled

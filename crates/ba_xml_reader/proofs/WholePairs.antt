@@ -1,5 +1,6 @@
 -- An attribute that is taken at once is the one that the machine takes byte by byte.
-use Rattle.std.proofs.Common.{◌≡◌, ℕ, ◌+◌, ◌-◌, ◌<◌, ◌≤◌, Bool, true, false, cond, not, ◌&&◌, ◌||◌, ◌==◌, nat_lt, take, drop, List, [], ◌∷◌, ◌++◌, length, refl, sym, ap, ap₂, ◌∙◌, subst, arith, eq-eqb, true≢false}
+use Rattle.std.proofs.Common.{◌≡◌, ℕ, ◌+◌, ◌-◌, ◌<◌, ◌≤◌, Bool, true, false, cond, not, ◌&&◌, ◌||◌, ◌==◌, nat_lt, take, drop, List, [], ◌∷◌}
+use Rattle.std.proofs.Common.{◌++◌, length, refl, sym, ap, ap₂, ◌∙◌, subst, arith, eq-eqb, true≢false}
 use Rattle.std.specs.List.{list_all}
 use Rattle.std.proofs.lemmas.Bool.{eqb-true}
 use Rattle.std.proofs.lemmas.List.{length-take-le, length-drop, take_more}
@@ -40,7 +41,8 @@ pair_bytes : (bs : List ℕ) (pair : Pair) → IsPair bs pair
     → take (pair.name + 2 + pair.value + 1) bs ≡ pair_text (take pair.name bs) pair.quote (take pair.value (drop (pair.name + 2) bs))
 pair_bytes bs pair is =
     take_more bs (pair.name + 2 + pair.value) 0 is.within
-    ∙ ap₂ (λ xs x. xs ++ x ∷ []) (take-add (pair.name + 2) pair.value bs ∙ ap (λ xs. xs ++ take pair.value (drop (pair.name + 2) bs)) opened) is.closes
+    ∙ ap₂ (λ xs x. xs ++ x ∷ []) (take-add (pair.name + 2) pair.value bs ∙ ap (λ xs. xs ++ take pair.value (drop (pair.name + 2) bs))
+    opened) is.closes
   where
     second : pair.name + 1 < length bs
     second = omega (arith, is.within)
@@ -57,8 +59,10 @@ pair_bytes bs pair is =
 
 -- ---- one byte
 
-pub run_one : (scan next : Scan) (taken b : ℕ) → turned scan b ≡ turn.On next → taken < 262144 → run (Going scan taken) (b ∷ []) ≡ Going next (taken + 1)
-run_one scan next taken b e h = run_more (Going scan taken) b [] ∙ ap (λ r. run r []) (once scan next taken b e h) ∙ run_none (Going next (taken + 1))
+pub run_one : (scan next : Scan) (taken b : ℕ) → turned scan b ≡ turn.On next → taken < 262144
+    → run (Going scan taken) (b ∷ []) ≡ Going next (taken + 1)
+run_one scan next taken b e h = run_more (Going scan taken) b [] ∙ ap (λ r. run r []) (once scan next taken b e h)
+    ∙ run_none (Going next (taken + 1))
 
 equals_kind : class_of 61 ≡ class.EqualsSign
 unfolding class_of mark_of
@@ -143,7 +147,8 @@ name_part outer here tag [] taken room all some h = absurd (none some)
     none s = omega (arith, s)
 name_part outer here tag (b ∷ bs) taken room all some h =
     run_more (Going (in_tag outer here tag true) taken) b bs
-    ∙ ap (λ r. run r bs) (once (in_tag outer here tag true) (in_name outer here tag (b ∷ [])) taken b (first_turn outer here tag b room letters.0) below)
+    ∙ ap (λ r. run r bs) (once (in_tag outer here tag true) (in_name outer here tag (b ∷ [])) taken b
+    (first_turn outer here tag b room letters.0) below)
     ∙ name_runs outer here (λ n. mode.AttributeName tag n) (one_letter b) bs (taken + 1) (λ n b. refl) letters.1 within
     ∙ ap (λ n. Going (in_name outer here tag (b ∷ bs)) n) same
   where
@@ -159,21 +164,24 @@ name_part outer here tag (b ∷ bs) taken room all some h =
     same : taken + 1 + length bs ≡ taken + length (b ∷ bs)
     same = omega arith
 
-equals_turn : (outer : List Level) (here : Level) (tag : Tag) (name : List ℕ) → is_written (plain_name name) tag.attributes ≡ false → 0 < length name
+equals_turn : (outer : List Level) (here : Level) (tag : Tag) (name : List ℕ) → is_written (plain_name name) tag.attributes ≡ false
+    → 0 < length name
     → turned (in_name outer here tag name) 61 ≡ turn.On (calm_scan (state.At outer here (mode.Quote tag (plain_name name))))
 equals_turn outer here tag [] new some = absurd (none some)
   where
     none : 0 < length {A = ℕ} [] → ⊥
     none s = omega (arith, s)
 equals_turn outer here tag (b ∷ bs) new some =
-    turn_on outer outer here here (mode.AttributeName tag (plain_name (b ∷ bs))) (mode.Quote tag (plain_name (b ∷ bs))) 61 equals_single refl
+    turn_on outer outer here here (mode.AttributeName tag (plain_name (b ∷ bs))) (mode.Quote tag (plain_name (b ∷ bs))) 61
+    equals_single refl
     (by_kind outer here (mode.AttributeName tag (plain_name (b ∷ bs))) 61 class.EqualsSign equals_kind
     ∙ ap (λ t. cond t (state.Refused reason.Syntax) (state.At outer here (mode.Quote tag (plain_name (b ∷ bs))))) new)
 
 close_turn : (outer : List Level) (here : Level) (tag : Tag) (name value : List ℕ) (q : ℕ) → IsMark q
     → turned (in_value outer here tag name value q) q ≡ turn.On (in_tag outer here (with_attribute tag (plain_attribute name value)) false)
 close_turn outer here tag name value q is =
-    turn_on outer outer here here (mode.Value tag (plain_attribute name value) q) (mode.InTag (with_attribute tag (plain_attribute name value)) false) q is.one is.no_return
+    turn_on outer outer here here (mode.Value tag (plain_attribute name value) q)
+    (mode.InTag (with_attribute tag (plain_attribute name value)) false) q is.one is.no_return
     (by_kind outer here (mode.Value tag (plain_attribute name value) q) q (class_of q) refl
     ∙ ap (λ t. cond t (state.At outer here (mode.InTag (with_attribute tag (plain_attribute name value)) false))
     (value_by outer here tag (plain_attribute name value) q q (class_of q))) (eq-eqb q q refl))
@@ -181,7 +189,8 @@ close_turn outer here tag name value q is =
 -- ---- the whole attribute
 
 text_runs : (outer : List Level) (here : Level) (tag : Tag) (name value : List ℕ) (q taken : ℕ) → nat_lt (length tag.attributes) 32 ≡ true
-    → is_written (plain_name name) tag.attributes ≡ false → 0 < length name → list_all is_letter name ≡ true → list_all is_plain value ≡ true → IsMark q
+    → is_written (plain_name name) tag.attributes ≡ false → 0 < length name → list_all is_letter name ≡ true
+    → list_all is_plain value ≡ true → IsMark q
     → taken + (length name + 2 + length value + 1) ≤ 262144
     → run (Going (in_tag outer here tag true) taken) (pair_text name q value)
     ≡ Going (in_tag outer here (with_attribute tag (plain_attribute name value)) false) (taken + (length name + 2 + length value + 1))
@@ -210,21 +219,27 @@ text_runs outer here tag name value q taken room new some letters plain is h =
     same : taken + length name + 1 + 1 + length value + 1 ≡ taken + (length name + 2 + length value + 1)
     same = omega arith
 
-    named : run (Going (in_tag outer here tag true) taken) (name ++ 61 ∷ []) ≡ Going (calm_scan (state.At outer here (mode.Quote tag (plain_name name)))) (taken + length name + 1)
+    named : run (Going (in_tag outer here tag true) taken) (name ++ 61 ∷ [])
+        ≡ Going (calm_scan (state.At outer here (mode.Quote tag (plain_name name)))) (taken + length name + 1)
     named =
         run_append (Going (in_tag outer here tag true) taken) name (61 ∷ [])
         ∙ ap (λ r. run r (61 ∷ [])) (name_part outer here tag name taken room letters some early)
-        ∙ run_one (in_name outer here tag name) (calm_scan (state.At outer here (mode.Quote tag (plain_name name)))) (taken + length name) 61
+        ∙ run_one (in_name outer here tag name) (calm_scan (state.At outer here (mode.Quote tag (plain_name name))))
+        (taken + length name) 61
         (equals_turn outer here tag name new some) second
 
-    opened : run (Going (in_tag outer here tag true) taken) ((name ++ 61 ∷ []) ++ q ∷ []) ≡ Going (in_value outer here tag name [] q) (taken + length name + 1 + 1)
+    opened : run (Going (in_tag outer here tag true) taken) ((name ++ 61 ∷ []) ++ q ∷ [])
+        ≡ Going (in_value outer here tag name [] q) (taken + length name + 1 + 1)
     opened =
         run_append (Going (in_tag outer here tag true) taken) (name ++ 61 ∷ []) (q ∷ [])
         ∙ ap (λ r. run r (q ∷ [])) named
-        ∙ run_one (calm_scan (state.At outer here (mode.Quote tag (plain_name name)))) (in_value outer here tag name [] q) (taken + length name + 1) q
-        (turn_on outer outer here here (mode.Quote tag (plain_name name)) (mode.Value tag (plain_attribute name []) q) q is.one is.no_return (is.opens outer here tag (plain_name name))) third
+        ∙ run_one (calm_scan (state.At outer here (mode.Quote tag (plain_name name)))) (in_value outer here tag name [] q)
+        (taken + length name + 1) q
+        (turn_on outer outer here here (mode.Quote tag (plain_name name)) (mode.Value tag (plain_attribute name []) q) q is.one is.no_return
+        (is.opens outer here tag (plain_name name))) third
 
-    valued : run (Going (in_tag outer here tag true) taken) (((name ++ 61 ∷ []) ++ q ∷ []) ++ value) ≡ Going (in_value outer here tag name value q) (taken + length name + 1 + 1 + length value)
+    valued : run (Going (in_tag outer here tag true) taken) (((name ++ 61 ∷ []) ++ q ∷ []) ++ value)
+        ≡ Going (in_value outer here tag name value q) (taken + length name + 1 + 1 + length value)
     valued =
         run_append (Going (in_tag outer here tag true) taken) ((name ++ 61 ∷ []) ++ q ∷ []) value
         ∙ ap (λ r. run r value) opened
@@ -238,9 +253,11 @@ bytes_run : (outer : List Level) (here : Level) (tag : Tag) (bs : List ℕ) (pai
     (taken + (pair.name + 2 + pair.value + 1))
 bytes_run outer here tag bs pair taken room is h =
     ap (λ xs. run (Going (in_tag outer here tag true) taken) xs) (pair_bytes bs pair is)
-    ∙ text_runs outer here tag (take pair.name bs) (take pair.value (drop (pair.name + 2) bs)) pair.quote taken free.0 (no (is_written (plain_name (take pair.name bs)) tag.attributes) free.1)
+    ∙ text_runs outer here tag (take pair.name bs) (take pair.value (drop (pair.name + 2) bs)) pair.quote taken free.0
+    (no (is_written (plain_name (take pair.name bs)) tag.attributes) free.1)
     some is.letters is.plain (mark pair.quote (pair.quote == 34) (pair.quote == 39) refl refl is.quote) within
-    ∙ ap (λ n. Going (in_tag outer here (with_attribute tag (plain_attribute (take pair.name bs) (take pair.value (drop (pair.name + 2) bs)))) false) n) same
+    ∙ ap (λ n. Going (in_tag outer here (with_attribute tag
+    (plain_attribute (take pair.name bs) (take pair.value (drop (pair.name + 2) bs)))) false) n) same
   where
     free : (nat_lt (length tag.attributes) 32 ≡ true) × (not (is_written (plain_name (take pair.name bs)) tag.attributes) ≡ true)
     free = both (nat_lt (length tag.attributes) 32) (not (is_written (plain_name (take pair.name bs)) tag.attributes)) room
@@ -254,7 +271,8 @@ bytes_run outer here tag bs pair taken room is h =
     some : 0 < length (take pair.name bs)
     some = omega (arith, named, is.some)
 
-    same : taken + (length (take pair.name bs) + 2 + length (take pair.value (drop (pair.name + 2) bs)) + 1) ≡ taken + (pair.name + 2 + pair.value + 1)
+    same : taken + (length (take pair.name bs) + 2 + length (take pair.value (drop (pair.name + 2) bs)) + 1)
+        ≡ taken + (pair.name + 2 + pair.value + 1)
     same = omega (arith, named, valued)
 
     within : taken + (length (take pair.name bs) + 2 + length (take pair.value (drop (pair.name + 2) bs)) + 1) ≤ 262144
@@ -264,18 +282,21 @@ by_parts : (s : State) (octet : Octet) (returned : Bool) (bs : List ℕ) (pair :
     → has_room (waiting (record { state = s; octet = octet; returned = returned })) (take pair.name bs) ≡ true
     → IsPair bs pair → taken + (pair.name + 2 + pair.value + 1) ≤ 262144
     → run (Going (record { state = s; octet = octet; returned = returned }) taken) (take (pair.name + 2 + pair.value + 1) bs)
-    ≡ Going (with_pair (record { state = s; octet = octet; returned = returned }) (take pair.name bs) (take pair.value (drop (pair.name + 2) bs)))
+    ≡ Going (with_pair (record { state = s; octet = octet; returned = returned }) (take pair.name bs)
+    (take pair.value (drop (pair.name + 2) bs)))
     (taken + (pair.name + 2 + pair.value + 1))
 by_parts s octet true bs pair taken room is h = absurd (true≢false (sym room))
 by_parts (state.Refused r) Between false bs pair taken room is h = absurd (true≢false (sym room))
-by_parts (state.At outer here (mode.InTag tag true)) Between false bs pair taken room is h = bytes_run outer here tag bs pair taken room is h
+by_parts (state.At outer here (mode.InTag tag true)) Between false bs pair taken room is h =
+    bytes_run outer here tag bs pair taken room is h
 by_parts (state.At outer here (mode.InTag tag false)) Between false bs pair taken room is h = absurd (true≢false (sym room))
 by_parts (state.At outer here m) Between false bs pair taken room is h = absurd (true≢false (sym room))
 by_parts s octet false bs pair taken room is h = absurd (true≢false (sym room))
 
 -- an attribute that is put at once is what the machine puts byte by byte
 pub pair_put : (scan next : Scan) (bs name value : List ℕ) (pair : Pair) (taken : ℕ) → has_room (waiting scan) (take pair.name bs) ≡ true
-    → IsPair bs pair → pair.name + 2 + pair.value + 1 ≤ 262144 - taken → name ≡ take pair.name bs → value ≡ take pair.value (drop (pair.name + 2) bs)
+    → IsPair bs pair → pair.name + 2 + pair.value + 1 ≤ 262144 - taken → name ≡ take pair.name bs
+    → value ≡ take pair.value (drop (pair.name + 2) bs)
     → next ≡ with_pair scan name value
     → run (Going scan taken) (take (pair.name + 2 + pair.value + 1) bs) ≡ Going next (taken + (pair.name + 2 + pair.value + 1))
 pair_put scan next bs name value pair taken room is most n v e =

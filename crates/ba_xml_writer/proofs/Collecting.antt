@@ -1,5 +1,7 @@
 -- Namespaces are held once each, in the order in which they are met.
-use Rattle.std.proofs.Common.{◌≡◌, ℕ, Bool, true, false, not, ◌&&◌, ◌||◌, List, [], ◌∷◌, ◌++◌, map, refl, sym, ap, ◌∙◌, append_assoc, append-nil, subst, add-one, length, length-append, drop, get_or, le_refl, ◌+◌, ◌<◌, ◌≤◌, arith, cond, if◌then◌else◌, filter}
+use Rattle.std.proofs.Common.{◌≡◌, ℕ, Bool, true, false, not, ◌&&◌, ◌||◌, List, [], ◌∷◌, ◌++◌, map, refl, sym, ap, ◌∙◌, append_assoc}
+use Rattle.std.proofs.Common.{append-nil, subst, add-one, length, length-append, drop, get_or, le_refl, ◌+◌, ◌<◌, ◌≤◌, arith, cond}
+use Rattle.std.proofs.Common.{if◌then◌else◌, filter}
 use Rattle.std.proofs.lemmas.List.{map-append}
 use Rattle.std.proofs.Math.Seq.{drop-cons}
 use Rattle.std.proofs.lemmas.List.Folds.{list_any-append}
@@ -38,7 +40,8 @@ with_all : (list : List Attribute) (rest : List (List ℕ)) → map (λ a. a.nam
 with_all [] rest = refl
 with_all (a ∷ list) rest = ap (λ l. a.name.space ∷ l) (with_all list rest)
 
-in_all : (list : List Content) (rest : List (List ℕ)) → joined (map named_spaces (joined (map (λ c. (within c).elements) list))) ++ rest ≡ spaces_in list rest
+in_all : (list : List Content) (rest : List (List ℕ))
+    → joined (map named_spaces (joined (map (λ c. (within c).elements) list))) ++ rest ≡ spaces_in list rest
 in_all [] rest = refl
 in_all (c ∷ list) rest =
     let later : List Element = joined (map (λ c. (within c).elements) list) in
@@ -47,7 +50,8 @@ in_all (c ∷ list) rest =
     ∙ (append_assoc (spaces_of c) (joined (map named_spaces later)) rest
     ∙ ap (λ l. spaces_of c ++ l) (in_all list rest)))
 
-pub tree_spaces : (t : Tree) (rest : List (List ℕ)) → spaces_named t ++ rest ≡ t.name.space ∷ spaces_with t.attributes (spaces_in t.content rest)
+pub tree_spaces : (t : Tree) (rest : List (List ℕ))
+    → spaces_named t ++ rest ≡ t.name.space ∷ spaces_with t.attributes (spaces_in t.content rest)
 tree_spaces t rest =
     let inner : List (List ℕ) = joined (map named_spaces (joined (map (λ c. (within c).elements) t.content))) in
     ap (λ es. joined (map named_spaces es) ++ rest) (elements_in t)
@@ -57,7 +61,8 @@ tree_spaces t rest =
     ∙ with_all t.attributes (spaces_in t.content rest)))
 
 -- the same of parts that are read one by one
-pub tree_met : (t : Tree) (rest : List (List ℕ)) (s : List ℕ) (atts : List Attribute) (cs : List Content) → s ≡ t.name.space → atts ≡ t.attributes → cs ≡ t.content
+pub tree_met : (t : Tree) (rest : List (List ℕ)) (s : List ℕ) (atts : List Attribute) (cs : List Content) → s ≡ t.name.space
+    → atts ≡ t.attributes → cs ≡ t.content
     → s ∷ spaces_with atts (spaces_in cs rest) ≡ spaces_named t ++ rest
 tree_met t rest s atts cs e f g = (λ i. e i ∷ spaces_with (f i) (spaces_in (g i) rest)) ∙ sym (tree_spaces t rest)
 
@@ -104,7 +109,8 @@ held_now : (held : List (List ℕ)) (s y : List ℕ) → bytes_eq s y ≡ true �
 held_now held s y h =
     let same : s ≡ y = (bytes_eq-Decides s y).0 h in
     let back : bytes_eq y s ≡ true = (bytes_eq-Decides y s).1 (sym same) in
-    ap (λ b. is_further y && not b) (list_any-append (bytes_eq y) held (s ∷ []) ∙ (ap (λ b. list_any (bytes_eq y) held || (b || false)) back ∙ or-true (list_any (bytes_eq y) held)))
+    ap (λ b. is_further y && not b) (list_any-append (bytes_eq y) held (s ∷ [])
+    ∙ (ap (λ b. list_any (bytes_eq y) held || (b || false)) back ∙ or-true (list_any (bytes_eq y) held)))
     ∙ and-false (is_further y)
 
 held_still : (held : List (List ℕ)) (s y : List ℕ) → bytes_eq s y ≡ false → fresh held y ≡ fresh (held ++ s ∷ []) y
@@ -118,7 +124,8 @@ same_fresh held s y e h = ap (fresh held) (sym ((bytes_eq-Decides s y).0 h)) ∙
 
 taken_step : (b : Bool) (held ss : List (List ℕ)) (s : List ℕ) → fresh held s ≡ b
     → ((more : List (List ℕ)) → taken more ss ≡ more ++ filter (fresh more) (firsts ss))
-    → taken (if b then held ++ s ∷ [] else held) ss ≡ held ++ cond b (s ∷ filter (fresh held) (without s (firsts ss))) (filter (fresh held) (without s (firsts ss)))
+    → taken (if b then held ++ s ∷ [] else held) ss ≡ held
+    ++ cond b (s ∷ filter (fresh held) (without s (firsts ss))) (filter (fresh held) (without s (firsts ss)))
 taken_step true held ss s e ih =
     ih (held ++ s ∷ [])
     ∙ (append_assoc held (s ∷ []) (filter (fresh (held ++ s ∷ [])) (firsts ss))
@@ -151,7 +158,8 @@ grown : (ss held : List (List ℕ)) → length held ≤ length (taken held ss)
 grown [] held = le_refl (length held)
 grown (s ∷ ss) held = grown_step (fresh held s) held ss s (grown ss)
 
-pub past : (held : List (List ℕ)) (s : List ℕ) (rest : List (List ℕ)) → true ≡ is_further s → list_any (bytes_eq s) held ≡ false → length held ≡ 28
+pub past : (held : List (List ℕ)) (s : List ℕ) (rest : List (List ℕ)) → true ≡ is_further s → list_any (bytes_eq s) held ≡ false
+    → length held ≡ 28
     → 28 < length (taken held (s ∷ rest))
 past held s rest f e n =
     let now : taken held (s ∷ rest) ≡ taken (held ++ s ∷ []) rest

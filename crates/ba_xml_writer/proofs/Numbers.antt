@@ -1,5 +1,6 @@
 -- Limits of a tree, said of its element and of what stands in it.
-use Rattle.std.proofs.Common.{◌≡◌, ℕ, ◌+◌, ◌-◌, ◌≤◌, ◌<◌, ◌&&◌, max, nat_le, true, List, [], ◌∷◌, map, length, suc, min, ◌^◌, refl, ap, sym, ◌∙◌, arith}
+use Rattle.std.proofs.Common.{◌≡◌, ℕ, ◌+◌, ◌-◌, ◌≤◌, ◌<◌, ◌&&◌, max, nat_le, true, List, [], ◌∷◌, map, length, suc, min, ◌^◌, refl, ap, sym}
+use Rattle.std.proofs.Common.{◌∙◌, arith}
 use Rattle.std.proofs.lemmas.Bool.Decides.{nat_tests}
 use Rattle.std.specs.List.{list_all}
 use Rattle.ba_tree.specs.declared.trees.Tree.{Tree}

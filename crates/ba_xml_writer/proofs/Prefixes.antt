@@ -7,5 +7,6 @@ use Rattle.ba_xml_writer.specs.OneText.{prefixed}
 
 pub look : (fs : List (List ℕ)) (space : List ℕ) (i : ℕ) (f : List ℕ) (rest : List ℕ) → i < length fs → f ≡ get_or fs i f
     → prefixed (numbered (i + 1) (drop i fs)) space rest
-    ≡ (if bytes_eq space f then codes "n" ++ decimal (i + 1) ++ (codes ":" ++ rest) else prefixed (numbered (i + 1 + 1) (drop (i + 1) fs)) space rest)
+    ≡ (if bytes_eq space f then codes "n" ++ decimal (i + 1)
+    ++ (codes ":" ++ rest) else prefixed (numbered (i + 1 + 1) (drop (i + 1) fs)) space rest)
 look fs space i f rest h e = rw (drop-cons fs i f h, add-one i, ← e) refl

@@ -1,5 +1,6 @@
 -- Each prefix of the one text means the namespace that it stands for.
-use Rattle.std.proofs.Common.{IsSome, cond, filter, ◌≡◌, ℕ, ◌+◌, ◌<◌, ◌≤◌, ◌^◌, length, Bool, true, false, not, ◌&&◌, ◌||◌, List, [], ◌∷◌, ◌++◌, Option, Some, if◌then◌else◌, nat_eq, codes, decimal, refl, sym, ap, ◌∙◌, arith}
+use Rattle.std.proofs.Common.{IsSome, cond, filter, ◌≡◌, ℕ, ◌+◌, ◌<◌, ◌≤◌, ◌^◌, length, Bool, true, false, not, ◌&&◌, ◌||◌, List, [], ◌∷◌}
+use Rattle.std.proofs.Common.{◌++◌, Option, Some, if◌then◌else◌, nat_eq, codes, decimal, refl, sym, ap, ◌∙◌, arith}
 use Rattle.std.specs.List.{list_any}
 use Rattle.std.specs.Str.{bytes_eq}
 use Rattle.std.specs.Str.Parse.{digits_value}
@@ -7,7 +8,8 @@ use Rattle.std.proofs.lemmas.Slice.Eq.{bytes_eq-Decides}
 use Rattle.std.proofs.lemmas.Fmt.{decimal_is_IsNumeral}
 use Rattle.ba_tree.specs.Trees.{namespaces, spaces_named, firsts, without}
 use Rattle.ba_tree.specs.declared.trees.Tree.{Tree}
-use Rattle.ba_xml_writer.specs.Namespaces.{Declaration, numbered, scope, further, is_further, xml_space, soap_space, wsa_space, wscoor_space, wsba_space}
+use Rattle.ba_xml_writer.specs.Namespaces.{Declaration, numbered, scope, further, is_further, xml_space, soap_space, wsa_space}
+use Rattle.ba_xml_writer.specs.Namespaces.{wscoor_space, wsba_space}
 use Rattle.ba_xml_writer.specs.OneText.{prefixed}
 use Rattle.ba_xml_writer.specs.Resolving.{prefix_of, space_of, before_colon, prefixes_differ}
 use Rattle.ba_xml_writer.specs.Writable.{IsWritable, HasRoom}
@@ -26,16 +28,19 @@ differs true m k e h top =
     let number : m ≡ k = sym (value_of m low) ∙ (ap (digits_value 10) same ∙ value_of k top) in
     absurd (omega arith)
 
-later_differ : (m k : ℕ) (fs : List (List ℕ)) → m < k → k + length fs ≤ 100 → list_any (λ d. bytes_eq (codes "n" ++ decimal m) d.prefix) (numbered k fs) ≡ false
+later_differ : (m k : ℕ) (fs : List (List ℕ)) → m < k → k + length fs ≤ 100
+    → list_any (λ d. bytes_eq (codes "n" ++ decimal m) d.prefix) (numbered k fs) ≡ false
 later_differ m k [] h top = refl
 later_differ m k (f ∷ fs) h top =
     let next : m < k + 1 = omega arith in
     let here : k ≤ 100 = omega arith in
     let over : k + 1 + length fs ≤ 100 = omega arith in
-    ap (λ b. b || list_any (λ d. bytes_eq (codes "n" ++ decimal m) d.prefix) (numbered (k + 1) fs)) (differs (bytes_eq (decimal m) (decimal k)) m k refl h here)
+    ap (λ b. b || list_any (λ d. bytes_eq (codes "n" ++ decimal m) d.prefix) (numbered (k + 1) fs))
+    (differs (bytes_eq (decimal m) (decimal k)) m k refl h here)
     ∙ later_differ m (k + 1) fs next over
 
-others_differ : (c : ℕ) (cs : List ℕ) (k : ℕ) (fs : List (List ℕ)) → nat_eq c 110 ≡ false → list_any (λ d. bytes_eq (c ∷ cs) d.prefix) (numbered k fs) ≡ false
+others_differ : (c : ℕ) (cs : List ℕ) (k : ℕ) (fs : List (List ℕ)) → nat_eq c 110 ≡ false
+    → list_any (λ d. bytes_eq (c ∷ cs) d.prefix) (numbered k fs) ≡ false
 others_differ c cs k [] h = refl
 others_differ c cs k (f ∷ fs) h =
     ap (λ b. (b && bytes_eq cs (decimal k)) || list_any (λ d. bytes_eq (c ∷ cs) d.prefix) (numbered (k + 1) fs)) h
@@ -88,7 +93,8 @@ found_step : (b : Bool) (first p q : List ℕ) (later : Option (List ℕ)) → (
 found_step true first p q later e h ih = let same : first ≡ p = cc in ap (bytes_eq q) (sym same) ∙ h
 found_step false first p q later e h ih = ih e
 
-found : (ds : List Declaration) (s p q : List ℕ) → prefix_of ds s ≡ Some p → list_any (λ d. bytes_eq q d.prefix) ds ≡ false → bytes_eq q p ≡ false
+found : (ds : List Declaration) (s p q : List ℕ) → prefix_of ds s ≡ Some p → list_any (λ d. bytes_eq q d.prefix) ds ≡ false
+    → bytes_eq q p ≡ false
 found [] s p q e h = absurd (cc)
 found (d ∷ ds) s p q e h =
     found_step (bytes_eq s d.space) d.prefix p q (prefix_of ds s) e
@@ -136,7 +142,8 @@ or_right : (a b : Bool) → b ≡ true → (a || b) ≡ true
 or_right true b h = refl
 or_right false b h = h
 
-kept_later : (b : Bool) (s y : List ℕ) (ys : List (List ℕ)) → list_any (bytes_eq s) ys ≡ true → list_any (bytes_eq s) (cond b (y ∷ ys) ys) ≡ true
+kept_later : (b : Bool) (s y : List ℕ) (ys : List (List ℕ)) → list_any (bytes_eq s) ys ≡ true
+    → list_any (bytes_eq s) (cond b (y ∷ ys) ys) ≡ true
 kept_later true s y ys h = or_right (bytes_eq s y) (list_any (bytes_eq s) ys) h
 kept_later false s y ys h = h
 
@@ -149,7 +156,8 @@ kept_step true f s y ys e k h ih =
     ∙ ap (λ b. b || list_any (bytes_eq s) (filter f ys)) e
 kept_step false f s y ys e k h ih = kept_later (f y) s y (filter f ys) (ih h)
 
-any_filter : (f : List ℕ → Bool) (s : List ℕ) (ys : List (List ℕ)) → f s ≡ true → list_any (bytes_eq s) ys ≡ true → list_any (bytes_eq s) (filter f ys) ≡ true
+any_filter : (f : List ℕ → Bool) (s : List ℕ) (ys : List (List ℕ)) → f s ≡ true → list_any (bytes_eq s) ys ≡ true
+    → list_any (bytes_eq s) (filter f ys) ≡ true
 any_filter f s [] k h = absurd (cc)
 any_filter f s (y ∷ ys) k h = kept_step (bytes_eq s y) f s y ys refl k h (any_filter f s ys k)
 
@@ -164,7 +172,8 @@ left_step true false x s y ys rest e g n h ih = ih h
 left_step false true x s y ys rest e g n h ih = ap (λ b. b || list_any (bytes_eq s) rest) g
 left_step false false x s y ys rest e g n h ih = or_right (bytes_eq s y) (list_any (bytes_eq s) rest) (ih h)
 
-any_without : (x s : List ℕ) (ys : List (List ℕ)) → bytes_eq x s ≡ false → list_any (bytes_eq s) ys ≡ true → list_any (bytes_eq s) (without x ys) ≡ true
+any_without : (x s : List ℕ) (ys : List (List ℕ)) → bytes_eq x s ≡ false → list_any (bytes_eq s) ys ≡ true
+    → list_any (bytes_eq s) (without x ys) ≡ true
 any_without x s [] n h = absurd (cc)
 any_without x s (y ∷ ys) n h = left_step (bytes_eq x y) (bytes_eq s y) x s y ys (without x ys) refl refl n h (any_without x s ys n)
 
@@ -178,7 +187,8 @@ any_firsts : (s : List ℕ) (ys : List (List ℕ)) → list_any (bytes_eq s) ys 
 any_firsts s [] h = absurd (cc)
 any_firsts s (y ∷ ys) h = first_step (bytes_eq s y) s y ys refl h (any_firsts s ys)
 
-numbered_step : (b : Bool) (s : List ℕ) (p : List ℕ) (later : Option (List ℕ)) (any : Bool) → (b || any) ≡ true → (any ≡ true → IsSome later)
+numbered_step : (b : Bool) (s : List ℕ) (p : List ℕ) (later : Option (List ℕ)) (any : Bool) → (b || any) ≡ true
+    → (any ≡ true → IsSome later)
     → IsSome (if b then Some p else later)
 numbered_step true s p later any h ih = refl
 numbered_step false s p later any h ih = ih h
@@ -186,9 +196,11 @@ numbered_step false s p later any h ih = ih h
 has_number : (s : List ℕ) (k : ℕ) (fs : List (List ℕ)) → list_any (bytes_eq s) fs ≡ true → IsSome (prefix_of (numbered k fs) s)
 has_number s k [] h = absurd (cc)
 has_number s k (f ∷ fs) h =
-    numbered_step (bytes_eq s f) s (codes "n" ++ decimal k) (prefix_of (numbered (k + 1) fs) s) (list_any (bytes_eq s) fs) h (has_number s (k + 1) fs)
+    numbered_step (bytes_eq s f) s (codes "n" ++ decimal k) (prefix_of (numbered (k + 1) fs) s) (list_any (bytes_eq s) fs) h
+    (has_number s (k + 1) fs)
 
-five : (a b c d e : Bool) (p q r u v : List ℕ) (later : Option (List ℕ)) → (not (a || (b || (c || (d || (e || false))))) ≡ true → IsSome later)
+five : (a b c d e : Bool) (p q r u v : List ℕ) (later : Option (List ℕ))
+    → (not (a || (b || (c || (d || (e || false))))) ≡ true → IsSome later)
     → IsSome (if a then Some p else (if b then Some q else (if c then Some r else (if d then Some u else (if e then Some v else later)))))
 five true b c d e p q r u v later h = refl
 five false true c d e p q r u v later h = refl
@@ -197,7 +209,8 @@ five false false false true e p q r u v later h = refl
 five false false false false true p q r u v later h = refl
 five false false false false false p q r u v later h = h refl
 
-pub named : (t : Tree) (s : List ℕ) → bytes_eq s [] ≡ false → list_any (bytes_eq s) (spaces_named t) ≡ true → IsSome (prefix_of (scope (further t)) s)
+pub named : (t : Tree) (s : List ℕ) → bytes_eq s [] ≡ false → list_any (bytes_eq s) (spaces_named t) ≡ true
+    → IsSome (prefix_of (scope (further t)) s)
 named t s n h =
     five (bytes_eq s xml_space) (bytes_eq s soap_space) (bytes_eq s wsa_space) (bytes_eq s wscoor_space) (bytes_eq s wsba_space)
     (codes "xml") (codes "soap") (codes "wsa") (codes "wscoor") (codes "wsba") (prefix_of (numbered 1 (further t)) s)

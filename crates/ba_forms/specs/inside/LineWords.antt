@@ -5,7 +5,8 @@ use Rattle.ba_core.specs.Texts.{id_text}
 use Rattle.ba_core.specs.Words.{kind_word, protocol_word}
 use Rattle.ba_pair.specs.declared.events.PairEvent.TheVariants as event
 use Rattle.ba_events.specs.Events.{world_words, IsWritten, IsObject, IsCall, FitsUnder, under_words}
-use Rattle.ba_forms.specs.Grammar.{words_of, the, name, a_call, a_kind, a_leave, a_message, a_node, a_protocol, a_side, a_time, a_verdict, an_act, an_image, number, Slot}
+use Rattle.ba_forms.specs.Grammar.{words_of, the, name, a_call, a_kind, a_leave, a_message, a_node, a_protocol, a_side, a_time, a_verdict}
+use Rattle.ba_forms.specs.Grammar.{an_act, an_image, number, Slot}
 use Rattle.ba_forms.specs.Readings.{opening_words, IsPlayable, pair_words, IsPairWritten, forms_at}
 use Rattle.ba_forms.specs.declared.line_words.LineWords.{LineWords}
 use Rattle.ba_forms.specs.declared.line_words.LineWords.TheVariants as line

@@ -1,5 +1,6 @@
 -- Inside: how far a body in chunks has been read, up to its trailer.
-use Rattle.std.specs.Prelude.{◌≡◌, ℕ, ◌+◌, ◌-◌, ◌*◌, ◌^◌, ◌<◌, ◌≤◌, min, if◌then◌else◌, List, [], ◌∷◌, ◌++◌, length, take, Option, None, Some, Result, Ok, Err, ⊤}
+use Rattle.std.specs.Prelude.{◌≡◌, ℕ, ◌+◌, ◌-◌, ◌*◌, ◌^◌, ◌<◌, ◌≤◌, min, if◌then◌else◌, List, [], ◌∷◌, ◌++◌, length, take, Option, None}
+use Rattle.std.specs.Prelude.{Some, Result, Ok, Err, ⊤}
 use Rattle.std.specs.Char.{is_ascii_hexdigit, digit_value}
 use Rattle.std.specs.Str.Parse.{digits_value}
 use Rattle.ba_http_head.specs.declared.faults.HttpFault.{HttpFault}
@@ -13,7 +14,8 @@ use Rattle.ba_http_chunks.specs.declared.chunks.Spot.{Spot}
 use Rattle.ba_http_chunks.specs.declared.chunks.Spot.TheVariants.{Line, Bytes, Feed}
 use Rattle.ba_http_chunks.specs.declared.chunks.Turned.{Turned}
 use Rattle.ba_http_chunks.specs.declared.chunks.Turned.TheVariants.{On, Last}
-use Rattle.ba_http_chunks.specs.Transfers.{size_of, Chunk, print_chunks, bytes_of, AreChunks, IsLastLine, BeginsChunk, Position, in_line, in_bytes, in_end, in_trailer, bytes_at, Breaks, Passes}
+use Rattle.ba_http_chunks.specs.Transfers.{size_of, Chunk, print_chunks, bytes_of, AreChunks, IsLastLine, BeginsChunk, Position, in_line}
+use Rattle.ba_http_chunks.specs.Transfers.{in_bytes, in_end, in_trailer, bytes_at, Breaks, Passes}
 
 -- the digits at the beginning of a line
 abbrev pub leading_digits : List ℕ → List ℕ

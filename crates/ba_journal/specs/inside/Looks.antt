@@ -6,7 +6,8 @@ use Rattle.ba_journal.specs.Loads.{EndsFailed}
 
 -- From old to new there were no calls but those that look: a disk that follows the model shows the same bytes, and
 -- a crash since leaves no others than before; none of the calls is counted, and the count of faults doesn't fall.
-pub record Looked {D : Type 0} (follows : D → Bool) (seen : D → List ℕ) (may_leave : D → List ℕ → Type 0) (later : D → D → Type 0) (left_between : D → D → List ℕ → Type 0) (driven : D → List Call → D → Type 0) (faults : D → ℕ) (old new : D) : Type 0 where
+pub record Looked {D : Type 0} (follows : D → Bool) (seen : D → List ℕ) (may_leave : D → List ℕ → Type 0) (later : D → D
+    → Type 0) (left_between : D → D → List ℕ → Type 0) (driven : D → List Call → D → Type 0) (faults : D → ℕ) (old new : D) : Type 0 where
   pub follows_same : follows new ≡ follows old
   pub seen_same : IsTrue (follows old) → seen new ≡ seen old
   pub no_more : IsTrue (follows old) → NoMore (may_leave old) (may_leave new)

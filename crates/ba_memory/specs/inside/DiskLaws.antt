@@ -1,12 +1,14 @@
 -- Inside: a MemDisk keeps the laws of a disk.
-use Rattle.std.specs.Prelude.{◌≡◌, ◌+◌, ◌-◌, ◌/◌, ◌<◌, ◌≤◌, ℕ, Bool, true, false, List, [], ◌∷◌, ◌++◌, length, take, drop, replicate, Some, None, if◌then◌else◌, refl}
+use Rattle.std.specs.Prelude.{◌≡◌, ◌+◌, ◌-◌, ◌/◌, ◌<◌, ◌≤◌, ℕ, Bool, true, false, List, [], ◌∷◌, ◌++◌, length, take, drop, replicate, Some}
+use Rattle.std.specs.Prelude.{None, if◌then◌else◌, refl}
 use Rattle.std.proofs.Common.{sym, ◌∙◌, ap, subst, ⊎_elim, arith, append_assoc, length-append, length-drop, take-append-drop}
 use Rattle.std.proofs.Math.Seq.{take-append_seam, take-append-add}
 use Rattle.std.proofs.lemmas.Bool.{cases_lt}
 use Rattle.std.proofs.lemmas.Bool.Decides.{nat_tests}
 use Rattle.std.proofs.lemmas.List.{append-nil, drop_at, take_all, drop_all, length-replicate, length-take, length-take-le, drop-drop}
 use Rattle.ba_ports.specs.Disk.{written_at, Torn, CutShort, Lists, is_counted, if_counted, counted, Armament, KeepsContent}
-use Rattle.ba_memory.specs.DiskValue.{MediumValue, DiskValue, course, goes_wrong, put, imaged, all_imaged, bytes_of, LeftOfOne, LeftOf, MayBeLeft, after, after_all, step, fails, IsLater, MayHaveBeenLeft, Leads, Drives, told, rearm}
+use Rattle.ba_memory.specs.DiskValue.{MediumValue, DiskValue, course, goes_wrong, put, imaged, all_imaged, bytes_of, LeftOfOne, LeftOf}
+use Rattle.ba_memory.specs.DiskValue.{MayBeLeft, after, after_all, step, fails, IsLater, MayHaveBeenLeft, Leads, Drives, told, rearm}
 use Rattle.ba_memory.specs.declared.changes.Change.{Change}
 use Rattle.ba_memory.specs.declared.changes.Change.TheVariants as change
 use Rattle.ba_ports.specs.declared.images.Image.{Image}

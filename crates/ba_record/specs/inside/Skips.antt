@@ -5,7 +5,8 @@ use Rattle.ba_message.specs.declared.endpoints.Epr.{Epr}
 use Rattle.ba_message.specs.declared.endpoints.TheConstants.{MOST_ENDPOINT_BYTES, MOST_PARAMETER_LEVELS}
 use Rattle.ba_tree.specs.declared.trees.Content.{Content}
 use Rattle.ba_tree.specs.declared.trees.Tree.{Tree}
-use Rattle.ba_record.specs.Reading.{Reading, read, bad, onward, read_byte, read_number, read_string, read_many, read_name, read_attributes, read_content, read_tree}
+use Rattle.ba_record.specs.Reading.{Reading, read, bad, onward, read_byte, read_number, read_string, read_many, read_name, read_attributes}
+use Rattle.ba_record.specs.Reading.{read_content, read_tree}
 
 -- ---- an endpoint of few levels
 

@@ -1,5 +1,6 @@
 -- Inside: what an event makes of the places of a world, by the parts in which it is played.
-use Rattle.std.specs.Prelude.{◌≡◌, ℕ, ◌+◌, ◌-◌, Bool, true, false, List, [], ◌∷◌, ◌++◌, length, nat_eq, slice_get, slice_set, Option, None, Some, Result, Ok, Err, if◌then◌else◌}
+use Rattle.std.specs.Prelude.{◌≡◌, ℕ, ◌+◌, ◌-◌, Bool, true, false, List, [], ◌∷◌, ◌++◌, length, nat_eq, slice_get, slice_set, Option, None}
+use Rattle.std.specs.Prelude.{Some, Result, Ok, Err, if◌then◌else◌}
 use Rattle.ba_arrivals.specs.declared.mails.Mail.TheVariants as mail
 use Rattle.ba_core.specs.Numbers.{node_of}
 use Rattle.ba_core.specs.declared.identifiers.Id.{Id}
@@ -17,7 +18,9 @@ use Rattle.ba_places.specs.declared.places.Place.{Place}
 use Rattle.ba_play.specs.Arrivals.{arrival}
 use Rattle.ba_play.specs.Nodes.{NodeCall, node_call}
 use Rattle.ba_play.specs.Outcomes.{label_of}
-use Rattle.ba_play.specs.Plays.{EventEffect, WorldOnDisks, arming_effect, context_handed, crash_effect, disk_at_start, has_node, if_has_node, lost_effect, mail_at, moment, node_base, occasion_effect, open_effect, scope_named, wait_effect, with_node}
+use Rattle.ba_play.specs.Plays.{EventEffect, WorldOnDisks, arming_effect, context_handed, crash_effect, disk_at_start, has_node}
+use Rattle.ba_play.specs.Plays.{if_has_node, lost_effect, mail_at, moment, node_base, occasion_effect, open_effect, scope_named}
+use Rattle.ba_play.specs.Plays.{wait_effect, with_node}
 use Rattle.ba_play.specs.declared.missing.Missing.{Missing}
 use Rattle.ba_play.specs.declared.missing.Missing.TheVariants as missing
 use Rattle.ba_ports.specs.Disk.{Armament}

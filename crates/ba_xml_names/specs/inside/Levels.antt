@@ -29,7 +29,15 @@ abbrev pub tree_of : Level → Tree
 tree_of here = record { name = here.name; attributes = here.attributes; content = here.content ++ text_item here.text }
 
 abbrev pub child_level : Opening → List ℕ → Level
-child_level o bytes = record { spelled = bytes; name = o.name; attributes = o.attributes; declarations = o.declarations; content = []; text = [] }
+child_level o bytes = record {
+  spelled = bytes;
+  name = o.name;
+  attributes = o.attributes;
+  declarations = o.declarations;
+  content =
+      [];
+  text = [];
+}
 
 abbrev pub empty_tree : Opening → Tree
 empty_tree o = record { name = o.name; attributes = o.attributes; content = [] }

@@ -4,10 +4,13 @@ use Rattle.ba_tree.specs.declared.trees.Content.{Content, out-Content}
 use Rattle.ba_tree.specs.declared.trees.Content.TheOpen.{Content-F}
 use Rattle.ba_tree.specs.declared.trees.Tree.{Tree}
 use Rattle.ba_xml_words.specs.Classes.{class_of}
-use Rattle.ba_xml_reader.specs.inside.Content.{begin_after, mark_one_after, mark_two_after, first_after, first_open_after, declaring_after, inside_after, open_after, exclaimed_after, hyphened_after, comment_after, bracketed_after, section_after, reference_after}
+use Rattle.ba_xml_reader.specs.inside.Content.{begin_after, mark_one_after, mark_two_after, first_after, first_open_after, declaring_after}
+use Rattle.ba_xml_reader.specs.inside.Content.{inside_after, open_after, exclaimed_after, hyphened_after, comment_after, bracketed_after}
+use Rattle.ba_xml_reader.specs.inside.Content.{section_after, reference_after}
 use Rattle.ba_xml_names.specs.Namespaces.{first_scope}
 use Rattle.ba_xml_words.specs.inside.Octets.{octet_after}
-use Rattle.ba_xml_reader.specs.inside.Tags.{tag_name_after, in_tag_after, attribute_name_after, equals_after, quote_after, value_after, value_reference_after, slashed_after, end_name_after, end_space_after}
+use Rattle.ba_xml_reader.specs.inside.Tags.{tag_name_after, in_tag_after, attribute_name_after, equals_after, quote_after, value_after}
+use Rattle.ba_xml_reader.specs.inside.Tags.{value_reference_after, slashed_after, end_name_after, end_space_after}
 use Rattle.ba_xml_words.specs.declared.classes.Class.{Class}
 use Rattle.ba_xml_words.specs.declared.faults.Reason.{Reason}
 use Rattle.ba_xml_words.specs.declared.faults.Reason.TheVariants as reason
@@ -31,7 +34,15 @@ use Rattle.ba_xml_reader.specs.declared.states.State.TheVariants.{Refused, At}
 
 -- the level outside of the root
 abbrev pub document : Level
-document = record { spelled = []; name = record { space = []; local = [] }; attributes = []; declarations = first_scope; content = []; text = [] }
+document = record {
+  spelled = [];
+  name = record { space = []; local = [] };
+  attributes = [];
+  declarations = first_scope;
+  content =
+      [];
+  text = [];
+}
 
 abbrev pub start : Scan
 start = record { state = At [] document mode.Begin; octet = Between; returned = false }

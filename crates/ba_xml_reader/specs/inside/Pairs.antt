@@ -1,5 +1,6 @@
 -- Inside: attributes that the reader takes at once. None of it is part of what the reader promises.
-use Rattle.std.specs.Prelude.{◌≡◌, ℕ, ◌+◌, ◌<◌, Bool, true, false, cond, ◌&&◌, ◌||◌, ◌==◌, not, nat_lt, List, [], Option, Some, None, length, take, drop, slice_index}
+use Rattle.std.specs.Prelude.{◌≡◌, ℕ, ◌+◌, ◌<◌, Bool, true, false, cond, ◌&&◌, ◌||◌, ◌==◌, not, nat_lt, List, [], Option, Some, None}
+use Rattle.std.specs.Prelude.{length, take, drop, slice_index}
 use Rattle.std.specs.List.{list_all}
 use Rattle.ba_xml_names.specs.inside.Tags.{with_attribute}
 use Rattle.ba_xml_names.specs.declared.tags.Tag.{Tag}

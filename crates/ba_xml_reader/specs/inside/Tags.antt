@@ -93,7 +93,8 @@ value_by outer here tag a quote b class.Space = value_more outer here tag a quot
 value_by outer here tag a quote b _ = value_more outer here tag a quote b
 
 abbrev pub value_after : List Level → Level → Tag → RawAttribute → ℕ → ℕ → Class → State
-value_after outer here tag a quote b k = cond (b == quote) (At outer here (mode.InTag (with_attribute tag a) false)) (value_by outer here tag a quote b k)
+value_after outer here tag a quote b k = cond (b == quote) (At outer here (mode.InTag (with_attribute tag a) false))
+    (value_by outer here tag a quote b k)
 
 abbrev pub value_reference_by : List Level → Level → Tag → RawAttribute → ℕ → Referred → State
 value_reference_by outer here tag a quote referred'.Wrong = Refused Syntax

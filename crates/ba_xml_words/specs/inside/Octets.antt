@@ -2,7 +2,8 @@
 use Rattle.std.specs.Prelude.{ℕ, cond, ◌==◌, nat_lt}
 use Rattle.ba_xml_words.specs.declared.faults.Reason.TheVariants.{NotUtf8, Syntax}
 use Rattle.ba_xml_words.specs.declared.octets.Octet.{Octet}
-use Rattle.ba_xml_words.specs.declared.octets.Octet.TheVariants.{Between, One, Two, Three, AfterE0, AfterED, AfterEF, AfterEFBF, AfterF0, AfterF4}
+use Rattle.ba_xml_words.specs.declared.octets.Octet.TheVariants.{Between, One, Two, Three, AfterE0, AfterED, AfterEF, AfterEFBF, AfterF0}
+use Rattle.ba_xml_words.specs.declared.octets.Octet.TheVariants.{AfterF4}
 use Rattle.ba_xml_words.specs.declared.octets.Decoding.{Decoding}
 use Rattle.ba_xml_words.specs.declared.octets.Decoding.TheVariants.{At, Broken}
 

@@ -56,7 +56,8 @@ named e count b = named_by e (reached_at (entity_text e) count b)
 -- a value past 10FFFF is no character's, and no more digits make it one
 abbrev pub with_digit : Radix → ℕ → ℕ → Referred
 with_digit radix value b = cond (nat_lt (digit_value b) (base_of radix))
-    (cond (nat_lt 0x10_FFFF (value * base_of radix + digit_value b)) Wrong (On (Number radix (value * base_of radix + digit_value b)))) Wrong
+    (cond (nat_lt 0x10_FFFF (value * base_of radix + digit_value b)) Wrong
+    (On (Number radix (value * base_of radix + digit_value b)))) Wrong
 
 abbrev pub made : ℕ → Referred
 made value = cond (is_legal value) (Meant value) Wrong

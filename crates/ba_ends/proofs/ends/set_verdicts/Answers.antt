@@ -9,4 +9,5 @@ loop-end-preserved c =
     let f = end_with_verdict c.args.verdict in
     let set : ◌≡◌ {A = End} c.set_verdict.new.self (f c.end-item.result) = c.set_verdict.ensures ∙ ap f (sym c.end-item.is) in
     ap (λ (e : End). slice_set c.loop-end.ends c.loop-end.end-index e) set
-    ∙ map_over_more f c.args.ends.now c.loop-end.ends c.loop-end.end-index c.end-item.result c.loop-end-test.true c.loop-end.invariant c.end-item.is
+    ∙ map_over_more f c.args.ends.now c.loop-end.ends c.loop-end.end-index c.end-item.result c.loop-end-test.true
+    c.loop-end.invariant c.end-item.is

@@ -24,5 +24,6 @@ returns-clause-reply g c =
     let head = c.in-Ok.head in
     whole_message Reply (left c.args.link.now) (left c.read_reply_head.new.link) (left c.read_reply_body.new.link)
     (record { start = answers head.code; length = head.length; rest = head.rest })
-    c.new-body.result c.read_reply_body.new.taker c.as_slice.result.now (Err c.in-Err-read_reply_body.fault) c.new-body.ensures c.as_slice.ensures
+    c.new-body.result c.read_reply_body.new.taker c.as_slice.result.now (Err c.in-Err-read_reply_body.fault) c.new-body.ensures
+    c.as_slice.ensures
     c.in-Ok.ensures.head c.in-Err-read_reply_body.ensures.body

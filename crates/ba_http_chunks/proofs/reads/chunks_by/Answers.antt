@@ -4,7 +4,8 @@ use Rattle.ba_http_head.specs.declared.faults.HttpFault.TheVariants.{Memory}
 use Rattle.ba_http_chunks.specs.inside.Progress.{Stands, Feeds}
 use Rattle.ba_http_chunks.proofs.Composing.{gives_none}
 use Rattle.ba_http_chunks.specs.Chunked.{Unchunks}
-use Rattle.ba_http_chunks.proofs.Blocks.{block_ended, block_fault, block_end, block_silent, block_unread, block_on, silent_memory, rest_of, small_piece, within_size, some_piece, falls, not_none}
+use Rattle.ba_http_chunks.proofs.Blocks.{block_ended, block_fault, block_end, block_silent, block_unread, block_on, silent_memory, rest_of}
+use Rattle.ba_http_chunks.proofs.Blocks.{small_piece, within_size, some_piece, falls, not_none}
 use Rattle.ba_http_chunks.proofs.TrailerSteps.{none_taken}
 use Rattle.ba_http_chunks.proofs.Standing.{bounded}
 use Rattle.ba_http_chunks.proofs.reads.chunks_by.Goals as goal
@@ -54,7 +55,8 @@ returns-in-Err-feed-clause-body g c = λ fed body s.
     let h = c.reading.invariant.taken fed body s in
     let t = c.in-Ok.ensures.taken in
     block_fault (so c.args.taker.now) (so c.reading.taker) c.reading.chunks fed body h.0 h.1 (left c.args.link.now)
-    (left c.read_some.new.link) h.3 h.4 (so c.feed.new.taker) c.feed.new.chunks (take c.in-Ok.size c.read_some.new.block) c.in-Err-feed.fault
+    (left c.read_some.new.link) h.3 h.4 (so c.feed.new.taker) c.feed.new.chunks (take c.in-Ok.size c.read_some.new.block)
+    c.in-Err-feed.fault
     (Consumes-trans (left c.args.link.now) (left c.reading.link) (left c.read_some.new.link) h.0
     (take c.in-Ok.size c.read_some.new.block) h.2 t.1)
     (small_piece c.read_some.new.block c.in-Ok.size c.reading.block t.0 c.reading.invariant.block) c.in-Err-feed.ensures
@@ -68,12 +70,14 @@ returns-in-Some-clause-body g c = λ fed body s.
     let feeds = subst (λ v. Feeds (so c.reading.taker) (so c.feed.new.taker) c.reading.chunks c.feed.new.chunks
     (take c.in-Ok.size c.read_some.new.block) (Ok v)) c.in-Some.is c.in-Ok-feed.ensures in
     block_ended (so c.args.taker.now) (so c.reading.taker) c.reading.chunks fed body h.0 h.1 (left c.args.link.now)
-    (left c.read_some.new.link) h.3 h.4 (so c.feed.new.taker) c.feed.new.chunks (take c.in-Ok.size c.read_some.new.block) c.in-Ok-copied.rest
+    (left c.read_some.new.link) h.3 h.4 (so c.feed.new.taker) c.feed.new.chunks (take c.in-Ok.size c.read_some.new.block)
+    c.in-Ok-copied.rest
     c.in-Some.at (left c.read_trailer.new.link) c.read_trailer.result
     (Consumes-trans (left c.args.link.now) (left c.reading.link) (left c.read_some.new.link) h.0
     (take c.in-Ok.size c.read_some.new.block) h.2 t.1)
     (small_piece c.read_some.new.block c.in-Ok.size c.reading.block t.0 c.reading.invariant.block) feeds
-    (c.in-Ok-copied.ensures ∙ rest_of c.read_some.new.block c.in-Some.at c.in-Ok.size (within_size c.read_some.new.block c.in-Ok.size c.in-Some.at feeds.0))
+    (c.in-Ok-copied.ensures ∙ rest_of c.read_some.new.block c.in-Some.at c.in-Ok.size
+    (within_size c.read_some.new.block c.in-Ok.size c.in-Some.at feeds.0))
     c.read_trailer.ensures.trailer
 
 pub reading-preserved : goal.reading-preserved
@@ -111,7 +115,8 @@ reading-smaller g c =
     let f = feeds (start.0 ++ h.0) (start.1 ++ h.1) h.3 in
     falls c.reading.chunks.count c.feed.new.chunks.count (start.0 ++ h.0) (take c.in-Ok.size c.read_some.new.block) h.3.count f.1.count
     (bounded c.reading.chunks (start.0 ++ h.0) (start.1 ++ h.1) h.3)
-    (some_piece c.read_some.new.block c.in-Ok.size (length c.reading.block) c.in-Ok.ensures.taken.0 c.in-Ok.ensures.block (not_none c.in-Ok.size c.in-Ok.size-test.1))
+    (some_piece c.read_some.new.block c.in-Ok.size (length c.reading.block) c.in-Ok.ensures.taken.0 c.in-Ok.ensures.block
+    (not_none c.in-Ok.size c.in-Ok.size-test.1))
 
 pub returns-in_default-clause-body : goal.returns-in_default-clause-body
 returns-in_default-clause-body g c = λ fed body s.

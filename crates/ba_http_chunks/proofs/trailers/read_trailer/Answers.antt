@@ -1,4 +1,5 @@
-use Rattle.std.proofs.Common.{◌≡◌, ◌≤◌, [], ◌++◌, length, take, length-append, Err, refl, sym, ap, append-nil, append_assoc, inl, rules, ◌∙◌, subst, arith}
+use Rattle.std.proofs.Common.{◌≡◌, ◌≤◌, [], ◌++◌, length, take, length-append, Err, refl, sym, ap, append-nil, append_assoc, inl, rules}
+use Rattle.std.proofs.Common.{◌∙◌, subst, arith}
 use Rattle.std.proofs.KnownBytes.{Consumes-trans, Consumes-nil, Keeps-refl, Keeps-trans}
 use Rattle.ba_http_head.specs.declared.faults.HttpFault.TheVariants.{Truncated}
 use Rattle.ba_http_head.specs.declared.headings.Heading.TheVariants.{Trailer}
@@ -82,7 +83,8 @@ reading-preserved g c =
         stops_after c.args.hand c.reading.bytes t.0 read.0 t.2 looked.open_yet (omega (arith, read.1, read.2, c.reading.invariant.block)),
       );
       within = omega (arith, at, ap length read.3, length-append c.reading.bytes read.0);
-      so_far = subst (λ v. IsLooked Trailer v c.scan.new.line) (sym (looked_whole c.reading.bytes read.0 c.read_block.new.bytes c.scan.new.at at read.3)) looked;
+      so_far = subst (λ v. IsLooked Trailer v c.scan.new.line)
+          (sym (looked_whole c.reading.bytes read.0 c.read_block.new.bytes c.scan.new.at at read.3)) looked;
       room = search rules;
       block = search rules;
       written = Keeps-trans (g.K.Link.written c.args.link.now) (g.K.Link.written c.reading.link) (g.K.Link.written c.read_block.new.link)

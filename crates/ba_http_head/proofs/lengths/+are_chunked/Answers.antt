@@ -6,7 +6,8 @@ use Rattle.httparse.specs.Spans.{header_bytes}
 use Rattle.ba_http_head.specs.Lengths.{is_chunked}
 use Rattle.ba_http_head.proofs.FieldValues.{names_is, all_on}
 use Rattle.ba_http_head.proofs.lengths.«+are_chunked».Goals as goal
-use Rattle.ba_http_head.proofs.lengths.«+are_chunked».Goals.{else-named-via-then-named+else-not-eq_ignore_ascii_case, else-named-via-else-named}
+use Rattle.ba_http_head.proofs.lengths.«+are_chunked».Goals.{else-named-via-then-named+else-not-eq_ignore_ascii_case}
+use Rattle.ba_http_head.proofs.lengths.«+are_chunked».Goals.{else-named-via-else-named}
 
 pub returns-else-named : goal.returns-else-named
 returns-else-named t c =

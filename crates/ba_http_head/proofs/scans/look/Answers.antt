@@ -1,4 +1,5 @@
-use Rattle.std.proofs.Common.{◌≡◌, ℕ, ◌+◌, ◌-◌, ◌<◌, ◌≤◌, ◌^◌, min, if◌then◌else◌, List, [], ◌∷◌, ◌++◌, length, take, drop, get_or, length-append, sym, ap, ◌∙◌, subst, arith}
+use Rattle.std.proofs.Common.{◌≡◌, ℕ, ◌+◌, ◌-◌, ◌<◌, ◌≤◌, ◌^◌, min, if◌then◌else◌, List, [], ◌∷◌, ◌++◌, length, take, drop, get_or}
+use Rattle.std.proofs.Common.{length-append, sym, ap, ◌∙◌, subst, arith}
 use Rattle.ba_http_head.specs.declared.scans.Shown.TheVariants.{Whole, Bad, Large}
 use Rattle.ba_http_head.specs.declared.scans.LineStart.{LineStart}
 use Rattle.ba_http_head.specs.declared.headings.Heading.{Heading}
@@ -8,7 +9,8 @@ use Rattle.ba_http_head.specs.declared.scans.TheConstants.{MOST_FIELDS, MOST_HEA
 use Rattle.ba_http_head.specs.HeadLines.{NeverWhole, field_lines, filled_lines, is_empty_line}
 use Rattle.ba_http_head.specs.Looks.{Shows, IsLooked}
 use Rattle.httparse.specs.Grammar.{LineEnd, print_blank}
-use Rattle.ba_http_head.proofs.LookLemmas.{empties_now, differs, split_last, line_is, plain_more, count_now, shows_long, shows_many, shows_whole, shows_bad, line_more}
+use Rattle.ba_http_head.proofs.LookLemmas.{empties_now, differs, split_last, line_is, plain_more, count_now, shows_long, shows_many}
+use Rattle.ba_http_head.proofs.LookLemmas.{shows_whole, shows_bad, line_more}
 use Rattle.ba_http_head.proofs.scans.look.Goals as goal
 
 module _ (heading : Heading) (prefix : List ℕ) (line : LineStart) (some : 0 < length prefix)

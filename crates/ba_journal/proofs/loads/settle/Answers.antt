@@ -12,8 +12,12 @@ use Rattle.ba_journal.proofs.loads.settle.Goals as goal
 pub returns-in_err-make_file-in-Fresh-clause-calls : goal.returns-in_err-make_file-in-Fresh-clause-calls
 returns-in_err-make_file-in-Fresh-clause-calls g c =
     let made = c.in_err-make_file-in-Fresh.ensures.calls in
-    let failed : is_err c.from_residual.result ≡ true = search rules in
-    (made.0, made.1, subst (λ (f : Reading). InTurn (settling f) (is_err c.from_residual.result) made.0) (sym c.in-Fresh.is) (subst (λ (b : Bool). InTurn making b made.0) (sym failed) made.2))
+    let failed : is_err c.from_residual.result ≡ true = search rules in (
+      made.0,
+      made.1,
+      subst (λ (f : Reading). InTurn (settling f) (is_err c.from_residual.result) made.0) (sym c.in-Fresh.is)
+          (subst (λ (b : Bool). InTurn making b made.0) (sym failed) made.2),
+    )
 
 pub repair-requires-clause-place : goal.repair-requires-clause-place
 repair-requires-clause-place g c = λ follows.
@@ -26,7 +30,8 @@ returns-in_err-repair-in-Found-clause-any_moment g c = λ follows only.
     let D = g.D.Disk in
     let file = D.seen c.args.disk.now in
     let found = subst (ReadsAs file) c.in-Found.is (c.requires.found follows) in
-    widened D.later D.left_between c.args.disk.now c.repair.new.disk _ (StandAlike file) (c.repair.ensures.any_moment follows c.in-Found.records found only)
+    widened D.later D.left_between c.args.disk.now c.repair.new.disk _ (StandAlike file)
+    (c.repair.ensures.any_moment follows c.in-Found.records found only)
     (λ left stands. (c.in-Found.records, inr (found.0, found.1), stands))
 
 pub returns-in_ok-repair-in-Found-clause-any_moment : goal.returns-in_ok-repair-in-Found-clause-any_moment
@@ -34,7 +39,8 @@ returns-in_ok-repair-in-Found-clause-any_moment g c = λ follows only.
     let D = g.D.Disk in
     let file = D.seen c.args.disk.now in
     let found = subst (ReadsAs file) c.in-Found.is (c.requires.found follows) in
-    widened D.later D.left_between c.args.disk.now c.repair.new.disk _ (StandAlike file) (c.repair.ensures.any_moment follows c.in-Found.records found only)
+    widened D.later D.left_between c.args.disk.now c.repair.new.disk _ (StandAlike file)
+    (c.repair.ensures.any_moment follows c.in-Found.records found only)
     (λ left stands. (c.in-Found.records, inr (found.0, found.1), stands))
 
 pub returns-in_ok-repair-in-Found-clause-settled : goal.returns-in_ok-repair-in-Found-clause-settled

@@ -13,4 +13,5 @@ returns-clause-looked g c =
 pub returns-clause-broke_off : goal.returns-clause-broke_off
 returns-clause-broke_off g c =
     let D = g.D.Disk in
-    broke_by D.follows D.seen D.may_leave D.later D.left_between D.driven D.faults c.args.disk.now c.len.new.self _ c.len.result refl c.len.ensures.driven
+    broke_by D.follows D.seen D.may_leave D.later D.left_between D.driven D.faults c.args.disk.now c.len.new.self _ c.len.result refl
+    c.len.ensures.driven

@@ -12,7 +12,8 @@ use Rattle.ba_journal.proofs.readings.read_all.Given.{Over}
 
 -- the length was asked, and the first bytes were read
 looked_at : (g : Over) (c : After-fill g)
-    → Looked g.D.Disk.follows g.D.Disk.seen g.D.Disk.may_leave g.D.Disk.later g.D.Disk.left_between g.D.Disk.driven g.D.Disk.faults c.args.disk.now c.fill.new.disk
+    → Looked g.D.Disk.follows g.D.Disk.seen g.D.Disk.may_leave g.D.Disk.later g.D.Disk.left_between g.D.Disk.driven g.D.Disk.faults
+    c.args.disk.now c.fill.new.disk
 looked_at g c =
     let D = g.D.Disk in
     looked_on D.follows D.seen D.may_leave D.later D.left_between D.driven D.faults g.met.D.Disk.call_after_call g.met.D.Disk.driven_on
@@ -25,7 +26,8 @@ of_file g c f =
     let first = c.length_of.ensures.looked in
     let same = first.seen_same f in
     let none = nothing_yet file c.in-Ok-new.blocks c.in-Ok.len c.in-Ok-new.ensures (c.in-Ok.ensures.length f) in
-    let read = c.in-Ok-fill.ensures.file (subst IsTrue (sym first.follows_same) f) (subst (λ (x : List ℕ). IsOf x c.in-Ok-new.blocks) (sym same) none) in
+    let read = c.in-Ok-fill.ensures.file (subst IsTrue (sym first.follows_same) f)
+    (subst (λ (x : List ℕ). IsOf x c.in-Ok-new.blocks) (sym same) none) in
     subst (λ (x : List ℕ). IsOf x c.fill.new.self) same read
 
 -- they are its first
@@ -61,36 +63,44 @@ pub returns-in-Some-clause-refused : goal.returns-in-Some-clause-refused
 returns-in-Some-clause-refused g c = λ f.
     let at = (goal.at.returns-in-Some-clause-refused g c).After-bytes in
     let behind = (goal.at.returns-in-Some-clause-refused g c).After-foreign_at in
-    foreign_file (g.D.Disk.seen c.args.disk.now) c.fill.new.self c.in-Some.place (of_file g at f) (at_start g at) (enough g at) (made g behind) (long g behind)
+    foreign_file (g.D.Disk.seen c.args.disk.now) c.fill.new.self c.in-Some.place (of_file g at f) (at_start g at) (enough g at)
+    (made g behind) (long g behind)
     (subst (λ (x : List ℕ). IsForeign x c.in-Some.place) c.bytes-2.ensures.bytes c.in-Some.ensures.some)
 
 pub returns-clause-looked : goal.returns-clause-looked
 returns-clause-looked g c =
     let D = g.D.Disk in
     looked_on D.follows D.seen D.may_leave D.later D.left_between D.driven D.faults g.met.D.Disk.call_after_call g.met.D.Disk.driven_on
-    c.args.disk.now c.fill.new.disk c.read_frames.new.disk (looked_at g (goal.at.returns-clause-looked g c).After-fill) c.read_frames.ensures.looked
+    c.args.disk.now c.fill.new.disk c.read_frames.new.disk (looked_at g (goal.at.returns-clause-looked g c).After-fill)
+    c.read_frames.ensures.looked
 
 pub returns-clause-ok : goal.returns-clause-ok
 returns-clause-ok g c = λ f.
     let at = (goal.at.returns-clause-ok g c).After-bytes in
     let behind = (goal.at.returns-clause-ok g c).After-foreign_at in
     let two = looked_at g (goal.at.returns-clause-ok g c).After-fill in
-    let headed : take 16 c.fill.new.self.bytes ≡ header = ap (take 16) (sym c.bytes-2.ensures.bytes) ∙ c.in_default-foreign_at.ensures.none in
-    let begins = begins_frames (g.D.Disk.seen c.args.disk.now) c.fill.new.self c.pass.new.self (of_file g at f) (at_start g at) (enough g at) (made g behind) headed (long g behind)
+    let headed : take 16 c.fill.new.self.bytes ≡ header =
+    ap (take 16) (sym c.bytes-2.ensures.bytes) ∙ c.in_default-foreign_at.ensures.none in
+    let begins = begins_frames (g.D.Disk.seen c.args.disk.now) c.fill.new.self c.pass.new.self (of_file g at f) (at_start g at)
+    (enough g at) (made g behind) headed (long g behind)
     c.pass.ensures.place c.pass.ensures.bytes c.pass.ensures.len in
     let there = subst (λ (x : List ℕ). BeginsFrames x c.pass.new.self) (sym (two.seen_same f)) begins in
-    subst (λ (x : List ℕ). IfOk c.read_frames.result (ReadsAs x)) (two.seen_same f) (c.read_frames.ensures.ok (subst IsTrue (sym two.follows_same) f) there)
+    subst (λ (x : List ℕ). IfOk c.read_frames.result (ReadsAs x)) (two.seen_same f)
+    (c.read_frames.ensures.ok (subst IsTrue (sym two.follows_same) f) there)
 
 pub returns-clause-refused : goal.returns-clause-refused
 returns-clause-refused g c = λ f.
     let at = (goal.at.returns-clause-refused g c).After-bytes in
     let behind = (goal.at.returns-clause-refused g c).After-foreign_at in
     let two = looked_at g (goal.at.returns-clause-refused g c).After-fill in
-    let headed : take 16 c.fill.new.self.bytes ≡ header = ap (take 16) (sym c.bytes-2.ensures.bytes) ∙ c.in_default-foreign_at.ensures.none in
-    let begins = begins_frames (g.D.Disk.seen c.args.disk.now) c.fill.new.self c.pass.new.self (of_file g at f) (at_start g at) (enough g at) (made g behind) headed (long g behind)
+    let headed : take 16 c.fill.new.self.bytes ≡ header =
+    ap (take 16) (sym c.bytes-2.ensures.bytes) ∙ c.in_default-foreign_at.ensures.none in
+    let begins = begins_frames (g.D.Disk.seen c.args.disk.now) c.fill.new.self c.pass.new.self (of_file g at f) (at_start g at)
+    (enough g at) (made g behind) headed (long g behind)
     c.pass.ensures.place c.pass.ensures.bytes c.pass.ensures.len in
     let there = subst (λ (x : List ℕ). BeginsFrames x c.pass.new.self) (sym (two.seen_same f)) begins in
-    subst (λ (x : List ℕ). IfErr c.read_frames.result (RefusesFile x)) (two.seen_same f) (c.read_frames.ensures.refused (subst IsTrue (sym two.follows_same) f) there)
+    subst (λ (x : List ℕ). IfErr c.read_frames.result (RefusesFile x)) (two.seen_same f)
+    (c.read_frames.ensures.refused (subst IsTrue (sym two.follows_same) f) there)
 
 pub returns-in_default-fill-clause-broke_off : goal.returns-in_default-fill-clause-broke_off
 returns-in_default-fill-clause-broke_off g c = λ is.
@@ -102,4 +112,5 @@ pub returns-clause-broke_off : goal.returns-clause-broke_off
 returns-clause-broke_off g c = λ is.
     let D = g.D.Disk in
     broke_on D.follows D.seen D.may_leave D.later D.left_between D.driven D.faults g.met.D.Disk.driven_on
-    c.args.disk.now c.fill.new.disk c.read_frames.new.disk (looked_at g (goal.at.returns-clause-broke_off g c).After-fill) (c.read_frames.ensures.broke_off is)
+    c.args.disk.now c.fill.new.disk c.read_frames.new.disk (looked_at g (goal.at.returns-clause-broke_off g c).After-fill)
+    (c.read_frames.ensures.broke_off is)

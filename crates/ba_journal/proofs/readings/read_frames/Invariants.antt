@@ -12,7 +12,8 @@ invariant-frames g l =
       within : l.blocks.place + 1 < 2 ^ 64;
       paid : ArePaid l.records l.blocks.place;
       looked : Looked D.follows D.seen D.may_leave D.later D.left_between D.driven D.faults l.initial.disk l.disk;
-      stands : IsTrue (D.follows l.initial.disk) → BeginsFrames (D.seen l.initial.disk) l.initial.blocks → Stands (D.seen l.initial.disk) l.blocks l.records;
+      stands : IsTrue (D.follows l.initial.disk) → BeginsFrames (D.seen l.initial.disk) l.initial.blocks
+          → Stands (D.seen l.initial.disk) l.blocks l.records;
     }
 
 abbrev pub decreases-frames : goal.decreases-frames

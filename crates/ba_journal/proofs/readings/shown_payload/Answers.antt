@@ -11,7 +11,8 @@ returns-clause-some c = λ all begins.
     let parts : c.args.bytes.now ≡ gate ∷ behind = search rules in
     let split : behind ≡ digits ++ rest = search rules in
     let four : length digits ≡ 4 = search rules in
-    counts c.args.bytes.now behind digits rest all gate c.args.left c.from_le_bytes-size.result c.min.result parts (search rules) split four c.from_le_bytes-size.ensures (omega arith) c.requires c.min.ensures begins
+    counts c.args.bytes.now behind digits rest all gate c.args.left c.from_le_bytes-size.result c.min.result parts (search rules) split four
+    c.from_le_bytes-size.ensures (omega arith) c.requires c.min.ensures begins
 
 pub returns-clause-are : goal.returns-clause-are
 returns-clause-are c =

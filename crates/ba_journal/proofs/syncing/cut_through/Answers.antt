@@ -45,10 +45,12 @@ returns-clause-any_moment g c =
 
 pub returns-in_err-sync-clause-calls : goal.returns-in_err-sync-clause-calls
 returns-in_err-sync-clause-calls g c =
-    let two = g.met.D.Disk.driven_on c.args.disk.now c.cut.new.self c.sync.new.self _ _ c.in_ok-cut.ensures.driven c.in_err-sync.ensures.driven in
+    let two = g.met.D.Disk.driven_on c.args.disk.now c.cut.new.self c.sync.new.self _ _ c.in_ok-cut.ensures.driven
+    c.in_err-sync.ensures.driven in
     (_, two, inr (_, refl, inl (search rules, refl)))
 
 pub returns-clause-calls : goal.returns-clause-calls
 returns-clause-calls g c =
-    let two = g.met.D.Disk.driven_on c.args.disk.now c.cut.new.self c.sync.new.self _ _ c.in_ok-cut.ensures.driven c.in_ok-sync.ensures.driven in
+    let two = g.met.D.Disk.driven_on c.args.disk.now c.cut.new.self c.sync.new.self _ _ c.in_ok-cut.ensures.driven
+    c.in_ok-sync.ensures.driven in
     (_, two, inr (_, refl, inr (_, refl, (refl, refl))))

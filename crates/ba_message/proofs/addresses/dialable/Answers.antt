@@ -8,4 +8,6 @@ returns-then-address-le-MOST_ADDRESS_BYTES c =
     let stripped = c.in-Some.ensures.cases in
     let address = c.args.address.now in
     let scheme = c.as_slice.ensures in
-    exactly_dialable address c.in-Some.rest.now c.host_follows.result (subst (λ s. pointwise nat_eq (take (length s) address) s ≡ true) scheme stripped.0) (stripped.1 ∙ ap (λ s. drop (length s) address) scheme) c.if-address-le-MOST_ADDRESS_BYTES.true c.host_follows.ensures
+    exactly_dialable address c.in-Some.rest.now c.host_follows.result
+    (subst (λ s. pointwise nat_eq (take (length s) address) s ≡ true) scheme stripped.0)
+    (stripped.1 ∙ ap (λ s. drop (length s) address) scheme) c.if-address-le-MOST_ADDRESS_BYTES.true c.host_follows.ensures

@@ -11,5 +11,15 @@ loop-digit-preserved c =
     let within : index < length digits = omega (arith, c.loop-digit-test.true) in
     let more = digits_value_more 10 digits index within in
     let value = digit_at digits index c.requires within in
-    let next : c.saturating_add-number.result ≡ min (digits_value 10 (take (index + 1) digits)) (2 ^ 32 - 1) = omega (arith, more, value.0, c.loop-digit.invariant, c.saturating_add-number.ensures, c.saturating_mul.ensures, c.from.ensures, c.saturating_sub.ensures) in
+    let next : c.saturating_add-number.result ≡ min (digits_value 10 (take (index + 1) digits)) (2 ^ 32 - 1) =
+    omega (
+      arith,
+      more,
+      value.0,
+      c.loop-digit.invariant,
+      c.saturating_add-number.ensures,
+      c.saturating_mul.ensures,
+      c.from.ensures,
+      c.saturating_sub.ensures,
+    ) in
     next

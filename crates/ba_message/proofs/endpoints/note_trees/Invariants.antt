@@ -6,4 +6,5 @@ use Rattle.ba_tree.specs.Spaces.{all_noted}
 use Rattle.ba_message.proofs.endpoints.note_trees.Given as goal
 
 abbrev pub invariant-loop-tree : goal.invariant-loop-tree
-invariant-loop-tree l = all_noted MOST_PARAMETER_NAMESPACES [] (joined (map spaces_named l.trees)) ≡ all_noted MOST_PARAMETER_NAMESPACES l.noted (joined (map spaces_named (drop l.tree-index l.trees)))
+invariant-loop-tree l = all_noted MOST_PARAMETER_NAMESPACES [] (joined (map spaces_named l.trees))
+    ≡ all_noted MOST_PARAMETER_NAMESPACES l.noted (joined (map spaces_named (drop l.tree-index l.trees)))

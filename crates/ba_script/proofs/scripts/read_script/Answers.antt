@@ -1,6 +1,7 @@
 use Rattle.std.proofs.Common.{◌+◌, ◌-◌, rules, arith}
 use Rattle.std.proofs.lemmas.Result.{err_from_is_err_and}
-use Rattle.ba_script.proofs.Streaming.{StandsAt, stands_on, advance_of, finished_of, stopped_of, too_many_of, taken_of, bounded_of, bounded_for}
+use Rattle.ba_script.proofs.Streaming.{StandsAt, stands_on, advance_of, finished_of, stopped_of, too_many_of, taken_of, bounded_of}
+use Rattle.ba_script.proofs.Streaming.{bounded_for}
 use Rattle.ba_script.proofs.scripts.read_script.Goals as goal
 use Rattle.ba_script.proofs.scripts.read_script.Goals.{After-find, After-is_at_end}
 use Rattle.ba_script.proofs.scripts.read_script.Given.{Over}

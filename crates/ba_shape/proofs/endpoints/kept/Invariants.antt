@@ -4,4 +4,5 @@ use Rattle.ba_message.specs.Endpoints.{marks_parameter}
 use Rattle.ba_shape.proofs.endpoints.kept.Given as goal
 
 abbrev pub invariant-loop-attribute : goal.invariant-loop-attribute
-invariant-loop-attribute l = l.kept ++ filter (λ a. not (marks_parameter a)) (drop l.attribute-index l.attributes) ≡ filter (λ a. not (marks_parameter a)) l.attributes
+invariant-loop-attribute l = l.kept ++ filter (λ a. not (marks_parameter a)) (drop l.attribute-index l.attributes)
+    ≡ filter (λ a. not (marks_parameter a)) l.attributes

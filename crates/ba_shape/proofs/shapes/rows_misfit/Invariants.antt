@@ -4,4 +4,5 @@ use Rattle.ba_shape.specs.Shapes.{line_of, misfit_with_rows, rows_misfit}
 use Rattle.ba_shape.proofs.shapes.rows_misfit.Given as goal
 
 abbrev pub invariant-loop-row : goal.invariant-loop-row
-invariant-loop-row g l = misfit_with_rows g.F.Form.look l.least (map line_of (drop l.row-index l.rows)) l.number l.tree ≡ rows_misfit g.F.Form.look (map line_of l.rows) l.number l.tree
+invariant-loop-row g l = misfit_with_rows g.F.Form.look l.least (map line_of (drop l.row-index l.rows)) l.number l.tree
+    ≡ rows_misfit g.F.Form.look (map line_of l.rows) l.number l.tree

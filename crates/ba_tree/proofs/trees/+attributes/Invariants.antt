@@ -5,4 +5,5 @@ use Rattle.ba_tree.specs.Trees.{within}
 use Rattle.ba_tree.proofs.trees.+attributes.Given as goal
 
 abbrev pub invariant-attributes_are_within-loop-part : goal.invariant-attributes_are_within-loop-part
-invariant-attributes_are_within-loop-part l = list_all (λ c. list_all (λ e. nat_le (length e.attributes) l.limit) (within c).elements) (take l.part-index l.content) ≡ true
+invariant-attributes_are_within-loop-part l =
+    list_all (λ c. list_all (λ e. nat_le (length e.attributes) l.limit) (within c).elements) (take l.part-index l.content) ≡ true

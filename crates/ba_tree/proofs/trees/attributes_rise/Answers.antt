@@ -6,4 +6,5 @@ use Rattle.ba_tree.proofs.Adjacent.{adjacent_is}
 use Rattle.ba_tree.proofs.trees.attributes_rise.Goals as goal
 
 pub returns : goal.returns
-returns c = adjacent_is (λ a b. is_lt (name_cmp a.name b.name)) _ _ (c.is_sorted_by.ensures.cases (λ a b. is_lt (name_cmp a.name b.name)) (always_returns_same _ _ _ (λ a r f k. search (rules, tests))))
+returns c = adjacent_is (λ a b. is_lt (name_cmp a.name b.name)) _ _
+    (c.is_sorted_by.ensures.cases (λ a b. is_lt (name_cmp a.name b.name)) (always_returns_same _ _ _ (λ a r f k. search (rules, tests))))

@@ -4,4 +4,5 @@ use Rattle.ba_wire.proofs.envelopes.encode.Goals as goal
 
 pub returns : goal.returns
 returns c =
-    text_of_same c.in_ok-tree.tree (envelope_tree c.args.route.now c.args.message.now) c.text_of.result c.in_ok-tree.ensures c.text_of.ensures
+    text_of_same c.in_ok-tree.tree (envelope_tree c.args.route.now c.args.message.now) c.text_of.result c.in_ok-tree.ensures
+    c.text_of.ensures

@@ -9,7 +9,8 @@ returns-in_err-feed c =
     let is : c.from_residual-in_err-feed.result ≡ Err why = search rules in
     record {
       answer = subst (λ result. IsReadOf c.args.bytes.now result) (sym is)
-          (fault_read why c.args.bytes.now c.feed.new.self (c.in_err-feed.ensures.fed [] c.in_ok-reader.ensures) c.in_err-feed.ensures.told);
+          (fault_read why c.args.bytes.now c.feed.new.self (c.in_err-feed.ensures.fed [] c.in_ok-reader.ensures)
+          c.in_err-feed.ensures.told);
     }
 
 pub returns : goal.returns

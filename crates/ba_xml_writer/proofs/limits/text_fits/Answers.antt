@@ -16,7 +16,9 @@ returns-then-len c =
 pub returns : goal.returns
 returns c =
     let count : length c.in-Ok.row.items ≡ length (further c.args.tree.now) = ap length c.in-Ok.ensures.row in
-    let room : length c.args.tree.now.attributes + length (further c.args.tree.now) ≤ 28 = omega (arith, c.len-2.ensures.value, c.len.ensures) in
+    let room : length c.args.tree.now.attributes + length (further c.args.tree.now) ≤ 28 =
+    omega (arith, c.len-2.ensures.value, c.len.ensures) in
     let both = short_is c.args.tree.now c.text_length.result
-    (text_is c.as_slice.result.now c.args.tree.now c.text_length.result c.text_length.ensures (c.as_slice.ensures.value ∙ c.in-Ok.ensures.row)) room in
+    (text_is c.as_slice.result.now c.args.tree.now c.text_length.result c.text_length.ensures
+    (c.as_slice.ensures.value ∙ c.in-Ok.ensures.row)) room in
     (λ h. both.0 (le_is c.text_length.result 262144 h), λ fits. is_le c.text_length.result 262144 (both.1 fits))

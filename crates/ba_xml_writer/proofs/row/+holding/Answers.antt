@@ -9,7 +9,8 @@ hold_tree-returns-clause-held t c rest =
     ∙ (c.in_default-hold_attributes.ensures.held (spaces_in c.as_slice-3.result.now rest)
     ∙ (c.in_default.ensures.held (spaces_with c.as_slice-2.result.now (spaces_in c.as_slice-3.result.now rest))
     ∙ ap (λ met. taken c.args.row.now.items met)
-    (tree_met c.args.tree.now rest c.as_slice.result.now c.as_slice-2.result.now c.as_slice-3.result.now c.as_slice.ensures c.as_slice-2.ensures c.as_slice-3.ensures)))
+    (tree_met c.args.tree.now rest c.as_slice.result.now c.as_slice-2.result.now c.as_slice-3.result.now c.as_slice.ensures
+    c.as_slice-2.ensures c.as_slice-3.ensures)))
 
 pub hold_tree-returns-in-Err-hold_attributes-clause-many :
     goal.hold_tree-returns-in-Err-hold_attributes-clause-many
@@ -17,7 +18,8 @@ hold_tree-returns-in-Err-hold_attributes-clause-many t c rest =
     still_over _ _
     (c.in_default.ensures.held (spaces_with c.as_slice-2.result.now (spaces_in c.args.tree.now.content rest))
     ∙ ap (λ met. taken c.args.row.now.items met)
-    (tree_met c.args.tree.now rest c.as_slice.result.now c.as_slice-2.result.now c.args.tree.now.content c.as_slice.ensures c.as_slice-2.ensures refl))
+    (tree_met c.args.tree.now rest c.as_slice.result.now c.as_slice-2.result.now c.args.tree.now.content c.as_slice.ensures
+    c.as_slice-2.ensures refl))
     (c.in-Err-hold_attributes.ensures.many (spaces_in c.args.tree.now.content rest))
 
 pub hold_tree-returns-in-Err-hold_items-clause-many :
@@ -27,5 +29,6 @@ hold_tree-returns-in-Err-hold_items-clause-many t c rest =
     (c.in_default-hold_attributes.ensures.held (spaces_in c.as_slice-3.result.now rest)
     ∙ (c.in_default.ensures.held (spaces_with c.as_slice-2.result.now (spaces_in c.as_slice-3.result.now rest))
     ∙ ap (λ met. taken c.args.row.now.items met)
-    (tree_met c.args.tree.now rest c.as_slice.result.now c.as_slice-2.result.now c.as_slice-3.result.now c.as_slice.ensures c.as_slice-2.ensures c.as_slice-3.ensures)))
+    (tree_met c.args.tree.now rest c.as_slice.result.now c.as_slice-2.result.now c.as_slice-3.result.now c.as_slice.ensures
+    c.as_slice-2.ensures c.as_slice-3.ensures)))
     (c.in-Err-hold_items.ensures.many rest)

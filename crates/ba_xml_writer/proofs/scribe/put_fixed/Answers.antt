@@ -8,4 +8,5 @@ returns g c more rest =
     c.in_ok-put_declaration-4.ensures more rest
     ∙ (c.in_ok-put_declaration-3.ensures (declaration (codes "wsba") wsba_space ∷ more) rest
     ∙ (c.in_ok-put_declaration-2.ensures (declaration (codes "wscoor") wscoor_space ∷ declaration (codes "wsba") wsba_space ∷ more) rest
-    ∙ c.in_ok-put_declaration.ensures (declaration (codes "wsa") wsa_space ∷ declaration (codes "wscoor") wscoor_space ∷ declaration (codes "wsba") wsba_space ∷ more) rest))
+    ∙ c.in_ok-put_declaration.ensures (declaration (codes "wsa") wsa_space ∷ declaration (codes "wscoor") wscoor_space
+    ∷ declaration (codes "wsba") wsba_space ∷ more) rest))

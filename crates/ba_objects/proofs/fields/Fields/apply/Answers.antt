@@ -1,6 +1,7 @@
 use Rattle.std.proofs.Common.{◌<◌, arith, length, refl}
 use Rattle.std.proofs.lemmas.Option.{slice_get_read}
-use Rattle.ba_objects.proofs.Applied.{part_applied, part_pushed, part_within, room_for_part, room_for_scope, scope_applied, scope_asks, scope_pushed, scope_within}
+use Rattle.ba_objects.proofs.Applied.{part_applied, part_pushed, part_within, room_for_part, room_for_scope, scope_applied, scope_asks}
+use Rattle.ba_objects.proofs.Applied.{scope_pushed, scope_within}
 use Rattle.ba_objects.specs.Objects.{NodeInMemory, in_memory, node_of, room_of}
 use Rattle.ba_steps.specs.Node.{NodeState}
 use Rattle.ba_objects.proofs.fields.Fields.apply.Goals as goal

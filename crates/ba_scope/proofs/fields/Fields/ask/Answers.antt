@@ -17,5 +17,6 @@ returns-in-Some c =
     let found : end_with_id s.ends c.args.id ≡ slice_get s.ends place = rw c.deref.ensures.value at c.in-Some.ensures.found in
     let at = slice_get_read s.ends (length s.ends) place c.index_mut.result.now refl within c.index_mut.ensures.value in
     let stands : StandsAt s c.args.id place c.index_mut.result.now = record { apart = fits.apart; found = found; at = at } in
-    subst (λ (s2 : ScopeState). ask s2 c.args.id ≡ record { after = with_end_at s place c.ask.new.self; answer = c.ask.result }) c.self.view_is
+    subst (λ (s2 : ScopeState). ask s2 c.args.id
+    ≡ record { after = with_end_at s place c.ask.new.self; answer = c.ask.result }) c.self.view_is
     (asking_at s c.args.id place c.index_mut.result.now c.ask.new.self c.ask.result stands c.ask.ensures.end c.ask.ensures.first)

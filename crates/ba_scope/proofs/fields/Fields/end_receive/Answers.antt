@@ -17,6 +17,7 @@ returns-in-Some c =
     let found : end_with_id s.ends c.args.id ≡ slice_get s.ends place = rw c.deref.ensures.value at c.in-Some.ensures.found in
     let at = slice_get_read s.ends (length s.ends) place c.index_mut.result.now refl within c.index_mut.ensures.value in
     let stands : StandsAt s c.args.id place c.index_mut.result.now = record { apart = fits.apart; found = found; at = at } in
-    subst (λ (s2 : ScopeState). end_receive s2 c.args.id c.args.notice ≡ record { after = with_end_at s place c.receive.new.self; answer = c.receive.result }) c.self.view_is
+    subst (λ (s2 : ScopeState). end_receive s2 c.args.id c.args.notice
+    ≡ record { after = with_end_at s place c.receive.new.self; answer = c.receive.result }) c.self.view_is
     (received_at s c.args.id c.args.notice place c.index_mut.result.now c.receive.new.self c.receive.result stands
     c.receive.ensures.end c.receive.ensures.row)

@@ -17,5 +17,6 @@ returns-in-Some c =
     let found : end_with_id s.ends c.args.id ≡ slice_get s.ends place = rw c.deref.ensures.value at c.in-Some.ensures.found in
     let at = slice_get_read s.ends (length s.ends) place c.index_mut.result.now refl within c.index_mut.ensures.value in
     let stands : StandsAt s c.args.id place c.index_mut.result.now = record { apart = fits.apart; found = found; at = at } in
-    subst (λ (s2 : ScopeState). tick_end s2 c.args.id ≡ record { after = with_end_at s place c.tick.new.self; says = c.tick.result }) c.self.view_is
+    subst (λ (s2 : ScopeState). tick_end s2 c.args.id
+    ≡ record { after = with_end_at s place c.tick.new.self; says = c.tick.result }) c.self.view_is
     (ticked_at s c.args.id place c.index_mut.result.now c.tick.new.self c.tick.result stands c.tick.ensures.end c.tick.ensures.says)

@@ -1,4 +1,5 @@
-use Rattle.std.proofs.Common.{◌≡◌, ◌+◌, ◌<◌, ◌≤◌, ◌∷◌, ◌++◌, List, [], Result, length, is_ok, IsOk, arith, sym, ap, ◌∙◌, subst, vec_capacity, vec_len, if◌then◌else◌}
+use Rattle.std.proofs.Common.{◌≡◌, ◌+◌, ◌<◌, ◌≤◌, ◌∷◌, ◌++◌, List, [], Result, length, is_ok, IsOk, arith, sym, ap, ◌∙◌, subst}
+use Rattle.std.proofs.Common.{vec_capacity, vec_len, if◌then◌else◌}
 use Rattle.ba_ends.specs.Ends.{new_end}
 use Rattle.ba_scope.specs.Rules.{scope_with_end}
 use Rattle.ba_scope.specs.Scope.{ScopeState}

@@ -7,4 +7,5 @@ use Rattle.ba_scope.proofs.scopes.Scope.choose.Goals as goal
 
 pub invariant_of-self : goal.invariant_of-self
 invariant_of-self c =
-    subst (λ (r : ScopeStep Said). ScopeFits r.after) c.choose.ensures (choose_fits c.self.inside.fields c.args.end c.args.verdict c.self.invariant)
+    subst (λ (r : ScopeStep Said). ScopeFits r.after) c.choose.ensures
+    (choose_fits c.self.inside.fields c.args.end c.args.verdict c.self.invariant)

@@ -7,4 +7,5 @@ use Rattle.ba_scope.proofs.scopes.Scope.end_receive.Goals as goal
 
 pub invariant_of-self : goal.invariant_of-self
 invariant_of-self c =
-    subst (λ (r : ScopeStep CRow). ScopeFits r.after) c.end_receive.ensures (end_receive_fits c.self.inside.fields c.args.end c.args.notice c.self.invariant)
+    subst (λ (r : ScopeStep CRow). ScopeFits r.after) c.end_receive.ensures
+    (end_receive_fits c.self.inside.fields c.args.end c.args.notice c.self.invariant)

@@ -4,7 +4,8 @@ use Rattle.ba_ends.specs.declared.parts.Part.{Part}
 use Rattle.ba_scope.proofs.Calls.{new_scope_fits}
 use Rattle.ba_scope.proofs.scopes.Scope.make.Goals as goal
 
-registering_at : (up : Option Part) → IfSome up (λ part. IsTrue (is_registering (Some part))) → (p : Part) → up ≡ Some p → is_registering (Some p) ≡ true
+registering_at : (up : Option Part) → IfSome up (λ part. IsTrue (is_registering (Some part))) → (p : Part) → up ≡ Some p
+    → is_registering (Some p) ≡ true
 registering_at up h p is = subst (λ (u : Option Part). IfSome u (λ part. IsTrue (is_registering (Some part)))) is h
 
 pub invariant_of-result : goal.invariant_of-result

@@ -7,4 +7,5 @@ use Rattle.ba_scope.proofs.scopes.Scope.up_receive.Goals as goal
 
 pub invariant_of-self : goal.invariant_of-self
 invariant_of-self c =
-    subst (λ (r : ScopeStep PRow). ScopeFits r.after) c.up_receive.ensures (up_receive_fits c.self.inside.fields c.args.notice c.self.invariant)
+    subst (λ (r : ScopeStep PRow). ScopeFits r.after) c.up_receive.ensures
+    (up_receive_fits c.self.inside.fields c.args.notice c.self.invariant)

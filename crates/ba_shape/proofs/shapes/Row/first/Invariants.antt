@@ -5,4 +5,5 @@ use Rattle.ba_shape.specs.Shapes.{line_of, names}
 use Rattle.ba_shape.proofs.shapes.Row.first.Given as goal
 
 abbrev pub invariant-loop-index : goal.invariant-loop-index
-invariant-loop-index g l = first_child (names (line_of l.self) l.parent) l.next (drop l.index l.content) ≡ first_child (names (line_of l.self) l.parent) l.fn.number l.content
+invariant-loop-index g l = first_child (names (line_of l.self) l.parent) l.next (drop l.index l.content)
+    ≡ first_child (names (line_of l.self) l.parent) l.fn.number l.content

@@ -17,4 +17,5 @@ returns c =
     let sized : length known ≡ count = ap length (sym c.self.view_is) ∙ row_length (λ b. b.now) row count (omega (arith, within)) in
     let room : length known < c.args.most = omega (arith, sized, c.if-count-most.false) in
     let fresh = is_fresh known new (sym c.is_empty.ensures ∙ c.if-is_empty.false) (sym c.holds.ensures ∙ c.if-holds.false) in
-    ap Some (put_last (λ b. b.now) row count c.args.space within ∙ ap (λ l. l ++ new ∷ []) c.self.view_is) ∙ sym (noted_new c.args.most known new fresh room)
+    ap Some (put_last (λ b. b.now) row count c.args.space within ∙ ap (λ l. l ++ new ∷ []) c.self.view_is)
+    ∙ sym (noted_new c.args.most known new fresh room)

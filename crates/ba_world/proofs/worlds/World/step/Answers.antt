@@ -29,4 +29,5 @@ returns-clause-play c = λ p world.
     (λ (b : Bool). IsPlayedAs (play_step p c.args.e.now) (record { stage = old; spent = false }) (record { stage = new; spent = b })
     c.happen-played.result)
     (sym c.is_starved-self-inside.ensures)
-    (world_plays c.self.inside.stage c.happen-played.new.self p c.args.e.now stage c.happen-played.result (c.happen-played.ensures p stage)))
+    (world_plays c.self.inside.stage c.happen-played.new.self p c.args.e.now stage c.happen-played.result
+    (c.happen-played.ensures p stage)))
