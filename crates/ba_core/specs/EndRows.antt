@@ -27,33 +27,44 @@ pub record EndCells : Type 0 where
   pub exit : Cell CState
   pub cannot_complete : Cell CState
 
-abbrev pub row : Mark → Cell CState → Cell CState → Cell CState → Cell CState → Cell CState → Cell CState → Cell CState → EndCells
-row m a b c d e f g = record { mark = m; completed = a; closed = b; canceled = c; compensated = d; fail = e; exit = f; cannot_complete = g }
+abbrev pub end_cells : Mark → Cell CState → Cell CState → Cell CState → Cell CState → Cell CState → Cell CState → Cell CState → EndCells
+end_cells m a b c d e f g = record {
+  mark = m;
+  completed = a;
+  closed = b;
+  canceled = c;
+  compensated = d;
+  fail = e;
+  exit =
+      f;
+  cannot_complete = g;
+}
 
 -- The table of receiving, a line a row. After the mark stand the cells of the columns
 -- Completed, Closed, Canceled, Compensated, Fail, Exit, CannotComplete.
 abbrev pub end_rows : CState → EndCells
-end_rows Active = row both (pc_to Completed) none none none (to FailingActive) (to Exiting) (to NotCompleting)
-end_rows Completing = row cc (to Completed) none none none (to FailingCompleting) (to Exiting) (to NotCompleting)
-end_rows Canceling = row pc (to Completed) none (to (Ended Canceled)) none (to FailingCanceling) (to Exiting) (to NotCompleting)
-end_rows CancelingActive = row cc none none (to (Ended Canceled)) none (to FailingCanceling) (to Exiting) (to NotCompleting)
-end_rows CancelingCompleting = row cc (to Completed) none (to (Ended Canceled)) none (to FailingCanceling) (to Exiting) (to NotCompleting)
-end_rows Completed = row both stay none none none none none none
-end_rows Closing = row both again (to (Ended Closed)) none none none none none
-end_rows Compensating = row both again none none (to (Ended Compensated)) (to FailingCompensating) none none
-end_rows FailingActive = row both none none none none stay none none
-end_rows FailingCanceling = row both none none none none stay none none
-end_rows FailingCompleting = row cc none none none none stay none none
-end_rows FailingCompensating = row both stay none none none stay none none
-end_rows NotCompleting = row both none none none none none none stay
-end_rows Exiting = row both none none none none none stay none
-end_rows (Ended Failed) = row both stay stay stay stay again stay stay
-end_rows (Ended Exited) = row both stay stay stay stay stay again stay
-end_rows (Ended NotCompleted) = row both stay stay stay stay stay stay again
-end_rows (Ended Canceled) = row both stay stay stay stay stay stay stay
-end_rows (Ended Closed) = row both stay stay stay stay stay stay stay
-end_rows (Ended Compensated) = row both stay stay stay stay stay stay stay
-end_rows (Ended Refused) = row neither none none none none none none none
+end_rows Active = end_cells both (pc_to Completed) none none none (to FailingActive) (to Exiting) (to NotCompleting)
+end_rows Completing = end_cells cc (to Completed) none none none (to FailingCompleting) (to Exiting) (to NotCompleting)
+end_rows Canceling = end_cells pc (to Completed) none (to (Ended Canceled)) none (to FailingCanceling) (to Exiting) (to NotCompleting)
+end_rows CancelingActive = end_cells cc none none (to (Ended Canceled)) none (to FailingCanceling) (to Exiting) (to NotCompleting)
+end_rows CancelingCompleting = end_cells cc (to Completed) none (to (Ended Canceled)) none (to FailingCanceling) (to Exiting)
+    (to NotCompleting)
+end_rows Completed = end_cells both stay none none none none none none
+end_rows Closing = end_cells both again (to (Ended Closed)) none none none none none
+end_rows Compensating = end_cells both again none none (to (Ended Compensated)) (to FailingCompensating) none none
+end_rows FailingActive = end_cells both none none none none stay none none
+end_rows FailingCanceling = end_cells both none none none none stay none none
+end_rows FailingCompleting = end_cells cc none none none none stay none none
+end_rows FailingCompensating = end_cells both stay none none none stay none none
+end_rows NotCompleting = end_cells both none none none none none none stay
+end_rows Exiting = end_cells both none none none none none stay none
+end_rows (Ended Failed) = end_cells both stay stay stay stay again stay stay
+end_rows (Ended Exited) = end_cells both stay stay stay stay stay again stay
+end_rows (Ended NotCompleted) = end_cells both stay stay stay stay stay stay again
+end_rows (Ended Canceled) = end_cells both stay stay stay stay stay stay stay
+end_rows (Ended Closed) = end_cells both stay stay stay stay stay stay stay
+end_rows (Ended Compensated) = end_cells both stay stay stay stay stay stay stay
+end_rows (Ended Refused) = end_cells neither none none none none none none none
 
 -- the column of a notice; a notice that is no column of this side has no row
 abbrev pub end_column : Notice → EndCells → Cell CState

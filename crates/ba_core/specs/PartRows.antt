@@ -27,33 +27,43 @@ pub record PartCells : Type 0 where
   pub exited : Cell PState
   pub not_completed : Cell PState
 
-abbrev pub row : Mark → Cell PState → Cell PState → Cell PState → Cell PState → Cell PState → Cell PState → Cell PState → PartCells
-row m a b c d e f g = record { mark = m; complete = a; close = b; cancel = c; compensate = d; failed = e; exited = f; not_completed = g }
+abbrev pub part_cells : Mark → Cell PState → Cell PState → Cell PState → Cell PState → Cell PState → Cell PState → Cell PState → PartCells
+part_cells m a b c d e f g = record {
+  mark = m;
+  complete = a;
+  close = b;
+  cancel = c;
+  compensate = d;
+  failed = e;
+  exited =
+      f;
+  not_completed = g;
+}
 
 -- The table of receiving, a line a row. After the mark stand the cells of the columns
 -- Complete, Close, Cancel, Compensate, Failed, Exited, NotCompleted.
 -- The line of Registering is no line of the table: nothing is received by it in that state.
 abbrev pub part_rows : PState → PartCells
-part_rows Registering = row both none none none none none none none
-part_rows Active = row both (to Completing) none (to Canceling) none none none none
-part_rows Completing = row cc stay none (to Canceling) none none none none
-part_rows Canceling = row both stay none stay none none none none
-part_rows Completed = row both again (to Closing) again (to Compensating) none none none
-part_rows Closing = row both stay stay stay none none none none
-part_rows Compensating = row both stay none stay stay none none none
-part_rows FailingActive = row both again none again none (to (Ended Failed)) none none
-part_rows FailingCanceling = row both again none again none (to (Ended Failed)) none none
-part_rows FailingCompleting = row cc again none again none (to (Ended Failed)) none none
-part_rows FailingCompensating = row both stay none stay again (to (Ended Failed)) none none
-part_rows NotCompleting = row both again none again none none none (to (Ended NotCompleted))
-part_rows Exiting = row both again none again none none (to (Ended Exited)) none
-part_rows (Ended Canceled) = row both again again again again stay stay stay
-part_rows (Ended Closed) = row both again again again again stay stay stay
-part_rows (Ended Compensated) = row both again again again again stay stay stay
-part_rows (Ended Failed) = row both stay stay stay stay stay stay stay
-part_rows (Ended Exited) = row both stay stay stay stay stay stay stay
-part_rows (Ended NotCompleted) = row both stay stay stay stay stay stay stay
-part_rows (Ended Refused) = row both stay stay stay stay stay stay stay
+part_rows Registering = part_cells both none none none none none none none
+part_rows Active = part_cells both (to Completing) none (to Canceling) none none none none
+part_rows Completing = part_cells cc stay none (to Canceling) none none none none
+part_rows Canceling = part_cells both stay none stay none none none none
+part_rows Completed = part_cells both again (to Closing) again (to Compensating) none none none
+part_rows Closing = part_cells both stay stay stay none none none none
+part_rows Compensating = part_cells both stay none stay stay none none none
+part_rows FailingActive = part_cells both again none again none (to (Ended Failed)) none none
+part_rows FailingCanceling = part_cells both again none again none (to (Ended Failed)) none none
+part_rows FailingCompleting = part_cells cc again none again none (to (Ended Failed)) none none
+part_rows FailingCompensating = part_cells both stay none stay again (to (Ended Failed)) none none
+part_rows NotCompleting = part_cells both again none again none none none (to (Ended NotCompleted))
+part_rows Exiting = part_cells both again none again none none (to (Ended Exited)) none
+part_rows (Ended Canceled) = part_cells both again again again again stay stay stay
+part_rows (Ended Closed) = part_cells both again again again again stay stay stay
+part_rows (Ended Compensated) = part_cells both again again again again stay stay stay
+part_rows (Ended Failed) = part_cells both stay stay stay stay stay stay stay
+part_rows (Ended Exited) = part_cells both stay stay stay stay stay stay stay
+part_rows (Ended NotCompleted) = part_cells both stay stay stay stay stay stay stay
+part_rows (Ended Refused) = part_cells both stay stay stay stay stay stay stay
 
 -- the column of a notice; a notice that is no column of this side has no row, and Complete is of
 -- CoordinatorCompletion alone

@@ -90,3 +90,7 @@ IsWritten (event.Crash node) = node < 2 ^ 32
 IsWritten (event.CrashAt node call i) = (node < 2 ^ 32) × IsCall call
 IsWritten (event.Fail node call) = (node < 2 ^ 32) × IsCall call
 IsWritten (event.Open node) = node < 2 ^ 32
+
+-- an event of a world and the number of its line in the script
+abbrev pub NumberedEvent : Type 0
+NumberedEvent = ℕ × Event

@@ -12,7 +12,7 @@ use Rattle.ba_core.specs.Texts.{id_text}
 use Rattle.ba_core.specs.declared.identifiers.Id.{Id}
 use Rattle.ba_events.specs.Events.{IsObject}
 use Rattle.ba_ports.specs.Lines.{onto_first}
-use Rattle.ba_forms.specs.Grammar.{parted, is_number, are_name, name, number, fits, most_32, most_64}
+use Rattle.ba_forms.specs.Grammar.{parted, is_number_between, are_name, name, number, fits, most_32, most_64}
 use Rattle.ba_forms.proofs.Fits.{both, first_of, second_of, not_true, number_fits, number_of_fit}
 
 -- none of the bytes is this one
@@ -98,7 +98,7 @@ pub written_name_fits : (node counter : ℕ) (word : List ℕ) → node < 2 ^ 32
 unfolding fits
 written_name_fits node counter word low small is =
     ap (λ w. are_name (parted 46 w)) is ∙ ap are_name (name_parts node counter low small)
-    ∙ both (is_number 0 most_32 (decimal node)) (is_number 0 most_64 (decimal counter))
+    ∙ both (is_number_between 0 most_32 (decimal node)) (is_number_between 0 most_64 (decimal counter))
     (number_fits 0 most_32 node (decimal node) refl (omega arith) (omega arith) (omega arith))
     (number_fits 0 most_64 counter (decimal counter) refl small (omega arith) (omega arith))
 
@@ -119,8 +119,9 @@ parts_name [] holds = absurd (true≢false (sym holds))
 parts_name (node ∷ []) holds = absurd (true≢false (sym holds))
 parts_name (node ∷ counter ∷ other ∷ others) holds = absurd (true≢false (sym holds))
 parts_name (node ∷ counter ∷ []) holds =
-    let first = number_of_fit 0 most_32 node (first_of (is_number 0 most_32 node) (is_number 0 most_64 counter) holds) in
-    let second = number_of_fit 0 most_64 counter (second_of (is_number 0 most_32 node) (is_number 0 most_64 counter) holds) in
+    let first = number_of_fit 0 most_32 node (first_of (is_number_between 0 most_32 node) (is_number_between 0 most_64 counter) holds) in
+    let second = number_of_fit 0 most_64 counter
+    (second_of (is_number_between 0 most_32 node) (is_number_between 0 most_64 counter) holds) in
     record {
       node = digits_value 10 node;
       counter = digits_value 10 counter;

@@ -23,8 +23,8 @@ is_one_of [] word = false
 is_one_of (w ∷ ws) word = pointwise nat_eq word w || is_one_of ws word
 
 -- the word is how a number between these bounds is written
-abbrev pub is_number : ℕ → ℕ → List ℕ → Bool
-is_number least most word =
+abbrev pub is_number_between : ℕ → ℕ → List ℕ → Bool
+is_number_between least most word =
     pointwise nat_eq word (decimal (digits_value 10 word)) && (nat_le least (digits_value 10 word) && nat_le (digits_value 10 word) most)
 
 -- the greatest numbers of 32 and of 64 bits
@@ -38,7 +38,7 @@ most_64 = 18446744073709551615
 abbrev pub are_name : List (List ℕ) → Bool
 are_name [] = false
 are_name (node ∷ []) = false
-are_name (node ∷ counter ∷ []) = is_number 0 most_32 node && is_number 0 most_64 counter
+are_name (node ∷ counter ∷ []) = is_number_between 0 most_32 node && is_number_between 0 most_64 counter
 are_name (node ∷ counter ∷ other ∷ others) = false
 
 -- what one word of a form may be: one of these words, a number between bounds, or the name of an object
@@ -50,7 +50,7 @@ pub data Slot : Type 0 where
 -- the word is such; names are parted by a dot
 unfoldable pub fits : Slot → List ℕ → Bool
 fits (one_of words) word = is_one_of words word
-fits (number least most) word = is_number least most word
+fits (number least most) word = is_number_between least most word
 fits name word = are_name (parted 46 word)
 
 abbrev pub the : List ℕ → Slot

@@ -11,10 +11,10 @@ use Rattle.ba_http_head.specs.declared.headings.Heading.{Heading}
 use Rattle.ba_http_head.specs.declared.lengths.Length.{Length}
 use Rattle.ba_http_head.specs.Heads.{StartLine, IsHead, Opening, OpeningSo, Opens}
 use Rattle.ba_http_chunks.specs.Transfers.{Sight, whole, broken, large}
-use Rattle.ba_http.specs.Messages.{EndsBody, IsShort, Message, ShowsAfterHead, IsUnfinished, MessageSo, Reads}
+use Rattle.ba_http.specs.Messages.{EndsBody, IsShortTransfer, HttpMessage, ShowsAfterHead, IsUnfinished, MessageSo, Reads}
 use Rattle.ba_http.specs.inside.Bodies.{BodySo, ReadsBody}
 
-abbrev pub message_or : StartLine → Result (List ℕ) HttpFault → Result Message HttpFault
+abbrev pub message_or : StartLine → Result (List ℕ) HttpFault → Result HttpMessage HttpFault
 message_or start (Ok body) = Ok (record { start = start; body = body })
 message_or start (Err fault) = Err fault
 
@@ -47,7 +47,7 @@ module _ (heading : Heading) (all hand taken : List ℕ) (n : ℕ) (start : Star
                 take n all,
                 cut taken ∙ ap (λ v. take n all ++ v) (sym input.1),
                 subst (λ v. IsHead heading (take n all) start (Ok v)) input.0 is,
-                subst (IsShort None) (sym input.1) input.2,
+                subst (IsShortTransfer None) (sym input.1) input.2,
               ),
               input.3,
             )
@@ -68,7 +68,7 @@ module _ (heading : Heading) (all hand taken : List ℕ) (n : ℕ) (start : Star
         start,
         cut taken,
         subst (λ v. IsHead heading (take n all) start (Ok v)) told.1 is,
-        subst (λ v. IsShort v (hand ++ taken)) told.1 told.2,
+        subst (λ v. IsShortTransfer v (hand ++ taken)) told.1 told.2,
       ),
     ),
     told.3,
@@ -76,7 +76,7 @@ module _ (heading : Heading) (all hand taken : List ℕ) (n : ℕ) (start : Star
   so left (Err Read) told = inr (said, (take n all, hand ++ taken, start, cut taken, is, told))
 
   -- nothing has shown itself of the body
-  pub unfinished : (more : List ℕ) → IsShort said (hand ++ more) → IsUnfinished heading (all ++ more)
+  pub unfinished : (more : List ℕ) → IsShortTransfer said (hand ++ more) → IsUnfinished heading (all ++ more)
   unfinished more short = inr (said, (take n all, hand ++ more, start, cut more, is, short))
 
 pub after_head : (heading : Heading) (old mid new : Option (List ℕ)) (opening : Opening) (result : Result (List ℕ) HttpFault)

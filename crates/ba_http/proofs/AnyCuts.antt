@@ -7,18 +7,18 @@ use Rattle.ba_http_head.specs.declared.faults.HttpFault.{HttpFault}
 use Rattle.ba_http_head.specs.declared.faults.HttpFault.TheVariants.{Memory, BadHead, Length as NoLength, TooLarge, BadChunk, Truncated}
 use Rattle.ba_http_head.specs.declared.faults.HttpFault.TheVariants.{Read}
 use Rattle.ba_http_head.specs.declared.headings.Heading.{Heading}
-use Rattle.ba_http.specs.Messages.{Message, Decides, IsCutShort, EndsAtInput, MessageSo, Reads}
+use Rattle.ba_http.specs.Messages.{HttpMessage, Decides, IsCutShort, EndsAtInput, MessageSo, Reads}
 use Rattle.ba_http.proofs.OneMessage.{decides_once, decision_settles}
 use Rattle.ba_http.proofs.AtInput.{one_at_input, whole_at_input, unfinished_at_input, cut_unfinished}
 
 -- the ground of an answer, in all bytes of the link
-data Ground (heading : Heading) (bytes : List ℕ) (answer : Result Message HttpFault) : Type 0 where
+data Ground (heading : Heading) (bytes : List ℕ) (answer : Result HttpMessage HttpFault) : Type 0 where
   decided : (n : ℕ) → n ≤ length bytes → Decides heading (take n bytes) answer → Ground heading bytes answer
-  at_the_end : (message : Message) → answer ≡ Ok message → EndsAtInput heading bytes message → Ground heading bytes answer
+  at_the_end : (message : HttpMessage) → answer ≡ Ok message → EndsAtInput heading bytes message → Ground heading bytes answer
   cut_short : answer ≡ Err Truncated → IsCutShort heading bytes → Ground heading bytes answer
 
 module _ (heading : Heading) (bytes taken rest : List ℕ) (split : bytes ≡ taken ++ rest) where
-  told : (answer : Result Message HttpFault) (n : ℕ) → n ≤ length taken → Decides heading (take n taken) answer
+  told : (answer : Result HttpMessage HttpFault) (n : ℕ) → n ≤ length taken → Decides heading (take n taken) answer
       → Ground heading bytes answer
   told answer n within decides =
       decided n (omega (arith, within, ap length split, length-append taken rest))
@@ -27,7 +27,7 @@ module _ (heading : Heading) (bytes taken rest : List ℕ) (split : bytes ≡ ta
   all : rest ≡ [] → taken ≡ bytes
   all none = sym (append-nil taken) ∙ ap (λ v. taken ++ v) (sym none) ∙ sym split
 
-  ground : (answer : Result Message HttpFault) → answer ≢ Err Memory → answer ≢ Err Read → MessageSo heading taken (Some rest) answer
+  ground : (answer : Result HttpMessage HttpFault) → answer ≢ Err Memory → answer ≢ Err Read → MessageSo heading taken (Some rest) answer
       → Ground heading bytes answer
   ground (Ok message) memory read so =
       elim so [
@@ -42,15 +42,16 @@ module _ (heading : Heading) (bytes taken rest : List ℕ) (split : bytes ≡ ta
   ground (Err Truncated) memory read so = cut_short refl (subst (IsCutShort heading) (all so.1) so.0)
   ground (Err Read) memory read so = absurd (read refl)
 
-ground_of : (heading : Heading) (bytes : List ℕ) (left : Option (List ℕ)) (answer : Result Message HttpFault)
+ground_of : (heading : Heading) (bytes : List ℕ) (left : Option (List ℕ)) (answer : Result HttpMessage HttpFault)
     → Reads heading (Some bytes) left answer → answer ≢ Err Memory → answer ≢ Err Read → Ground heading bytes answer
 ground_of heading bytes None answer r memory read = absurd r.2
 ground_of heading bytes (Some rest) answer r memory read = ground heading bytes (r.0 ++ r.1) rest r.2 answer memory read r.5
 
-abbrev ok_of : Message → Result Message HttpFault
+abbrev ok_of : HttpMessage → Result HttpMessage HttpFault
 ok_of message = Ok message
 
-one_answer : (heading : Heading) (bytes : List ℕ) (a b : Result Message HttpFault) → Ground heading bytes a → Ground heading bytes b → a ≡ b
+one_answer : (heading : Heading) (bytes : List ℕ) (a b : Result HttpMessage HttpFault) → Ground heading bytes a
+    → Ground heading bytes b → a ≡ b
 one_answer heading bytes a b (decided m x d) (decided n y e) = (decides_once heading bytes m n a b x y d e).1
 one_answer heading bytes a b (decided m x d) (at_the_end w q e) =
     absurd (decision_settles heading bytes m a x d (unfinished_at_input heading bytes w e))
@@ -65,7 +66,7 @@ one_answer heading bytes a b (cut_short p c) (decided n y e) =
 one_answer heading bytes a b (cut_short p c) (at_the_end w q e) = absurd (whole_at_input heading bytes w e c)
 one_answer heading bytes a b (cut_short p c) (cut_short q d) = p ∙ sym q
 
-pub any_cuts : (heading : Heading) (bytes : List ℕ) (one other : Option (List ℕ)) (a b : Result Message HttpFault)
+pub any_cuts : (heading : Heading) (bytes : List ℕ) (one other : Option (List ℕ)) (a b : Result HttpMessage HttpFault)
     → Reads heading (Some bytes) one a → Reads heading (Some bytes) other b
     → a ≢ Err Memory → a ≢ Err Read → b ≢ Err Memory → b ≢ Err Read → a ≡ b
 any_cuts heading bytes one other a b first second am ar bm br =

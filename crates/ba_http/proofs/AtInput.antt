@@ -7,14 +7,14 @@ use Rattle.ba_http_head.specs.declared.scans.Shown.TheVariants.{Whole}
 use Rattle.ba_http_head.specs.Heads.{StartLine, IsHead, SaysHead}
 use Rattle.ba_http_head.specs.Looks.{Shows}
 use Rattle.ba_http_head.proofs.Once.{shows_once, says_one}
-use Rattle.ba_http.specs.Messages.{Message, IsAfterHead, IsUnfinished, IsCutShort, EndsAtInput}
+use Rattle.ba_http.specs.Messages.{HttpMessage, IsAfterHead, IsUnfinished, IsCutShort, EndsAtInput}
 use Rattle.ba_http.proofs.OneMessage.{says_length, prefix_is, inner, closed}
 
 after : (xs ys : List ℕ) → drop (length xs) (xs ++ ys) ≡ ys
 after [] ys = refl
 after (x ∷ xs) ys = after xs ys
 
-abbrev message_of : StartLine → List ℕ → Message
+abbrev message_of : StartLine → List ℕ → HttpMessage
 message_of start body = record { start = start; body = body }
 
 -- two whole heads at the beginning of the same bytes
@@ -46,12 +46,13 @@ module _ (heading : Heading) (bytes : List ℕ) where
         lengths = says.1;
       }
 
-pub one_at_input : (heading : Heading) (bytes : List ℕ) (x y : Message) → EndsAtInput heading bytes x → EndsAtInput heading bytes y → x ≡ y
+pub one_at_input : (heading : Heading) (bytes : List ℕ) (x y : HttpMessage) → EndsAtInput heading bytes x
+    → EndsAtInput heading bytes y → x ≡ y
 one_at_input heading bytes x y one other =
     let same = one_head heading bytes one.0 other.0 x.body y.body x.start y.start None None one.1 other.1 one.2 other.2 in
     ap (λ v. message_of v x.body) same.starts ∙ ap (message_of y.start) same.rests
 
-pub whole_at_input : (heading : Heading) (bytes : List ℕ) (x : Message) → EndsAtInput heading bytes x → ¬ (IsCutShort heading bytes)
+pub whole_at_input : (heading : Heading) (bytes : List ℕ) (x : HttpMessage) → EndsAtInput heading bytes x → ¬ (IsCutShort heading bytes)
 whole_at_input heading bytes x ends cut =
     elim cut [
       | inl yet ↦
@@ -63,17 +64,17 @@ whole_at_input heading bytes x ends cut =
           absurd (cc)
     ]
 
-pub unfinished_at_input : (heading : Heading) (bytes : List ℕ) (x : Message) → EndsAtInput heading bytes x → IsUnfinished heading bytes
+pub unfinished_at_input : (heading : Heading) (bytes : List ℕ) (x : HttpMessage) → EndsAtInput heading bytes x → IsUnfinished heading bytes
 unfinished_at_input heading bytes x ends = inr (None, (ends.0, x.body, x.start, ends.1, ends.2, ends.3))
 
 pub cut_unfinished : (heading : Heading) (bytes : List ℕ) → IsCutShort heading bytes → IsUnfinished heading bytes
 cut_unfinished heading bytes cut = elim cut [ inl yet ↦ inl yet | inr h ↦ inr (Some h.0, h.1) ]
 
 by_length : (heading : Heading) (bytes : List ℕ) (said : Option Length) → IsAfterHead heading bytes said
-    → IsCutShort heading bytes ⊎ ((x : Message) × EndsAtInput heading bytes x)
+    → IsCutShort heading bytes ⊎ ((x : HttpMessage) × EndsAtInput heading bytes x)
 by_length heading bytes (Some length) h = inl (inr (length, h))
 by_length heading bytes None h = inr (message_of h.2 h.1, (h.0, h.3, h.4, h.5))
 
 pub at_input : (heading : Heading) (bytes : List ℕ) → IsUnfinished heading bytes
-    → IsCutShort heading bytes ⊎ ((x : Message) × EndsAtInput heading bytes x)
+    → IsCutShort heading bytes ⊎ ((x : HttpMessage) × EndsAtInput heading bytes x)
 at_input heading bytes unfinished = elim unfinished [ inl yet ↦ inl (inl yet) | inr h ↦ by_length heading bytes h.0 h.1 ]

@@ -14,7 +14,8 @@ use Rattle.ba_http_head.proofs.LookLemmas.{begun}
 use Rattle.ba_http_body.specs.declared.size_lines.Place.TheVariants.{First}
 use Rattle.ba_http_body.specs.SizeLines.{SizeLine, IsSizeLine, print_size_line, MayBecomeSizeLine}
 use Rattle.ba_http_chunks.specs.declared.chunks.TheConstants.{MOST_SIZE_LINE}
-use Rattle.ba_http_chunks.specs.Transfers.{size_of, IsShortLine, Chunk, IsChunk, print_chunk, print_chunks, bytes_of, AreChunks, IsLastLine}
+use Rattle.ba_http_chunks.specs.Transfers.{size_of, IsShortLine, Chunk, IsChunk, print_chunk, print_chunks, carried_bytes, AreChunks}
+use Rattle.ba_http_chunks.specs.Transfers.{IsLastLine}
 use Rattle.ba_http_chunks.specs.Transfers.{Position, in_line, in_bytes, in_end, in_trailer, bytes_at, GoesOn, IsUnended, Sight, whole}
 use Rattle.ba_http_chunks.specs.Transfers.{broken, large, ShowsBody}
 use Rattle.ba_http_chunks.proofs.LinesGoOn.{begins}
@@ -33,9 +34,9 @@ chunks_more [] c = append-nil (print_chunk c)
 chunks_more (d ∷ chunks) c = ap (λ v. print_chunk d ++ v) (chunks_more chunks c)
     ∙ sym (append_assoc (print_chunk d) (print_chunks chunks) (print_chunk c))
 
-bytes_more : (chunks : List Chunk) (c : Chunk) → bytes_of (chunks ++ c ∷ []) ≡ bytes_of chunks ++ c.bytes
+bytes_more : (chunks : List Chunk) (c : Chunk) → carried_bytes (chunks ++ c ∷ []) ≡ carried_bytes chunks ++ c.bytes
 bytes_more [] c = append-nil c.bytes
-bytes_more (d ∷ chunks) c = ap (λ v. d.bytes ++ v) (bytes_more chunks c) ∙ sym (append_assoc d.bytes (bytes_of chunks) c.bytes)
+bytes_more (d ∷ chunks) c = ap (λ v. d.bytes ++ v) (bytes_more chunks c) ∙ sym (append_assoc d.bytes (carried_bytes chunks) c.bytes)
 
 abbrev chunk_of : SizeLine → List ℕ → Chunk
 chunk_of line bytes = record { line = line; bytes = bytes }
@@ -48,7 +49,7 @@ module _ (chunks : List Chunk) (are : AreChunks chunks) (b : ℕ) where
       ap (λ v. print_chunks chunks ++ v) (is ∙ sym (append-nil (print_size_line l))) in
       elim (cases_lt 0 (size_of l)) [
         | inl some ↦
-            elim (cases_lt MOST_BODY (length (bytes_of chunks) + size_of l)) [
+            elim (cases_lt MOST_BODY (length (carried_bytes chunks) + size_of l)) [
               | inl past ↦ inr (large, inr (inl (chunks, l, are, short, past, ap (λ v. print_chunks chunks ++ v) is)))
               | inr small ↦ inl (chunks, in_bytes l [], are, (record { line = short; some = some; small = small }, omega arith), cut)
             ]
@@ -118,9 +119,9 @@ module _ (chunks : List Chunk) (are : AreChunks chunks) (b : ℕ) where
       → Now (print_chunks chunks ++ ((print_size_line line ++ (all ++ 13 ∷ [])) ++ b ∷ []))
   of_end line all yet = feed (nat_eq b 10) refl
     where
-      sum : length (bytes_of (chunks ++ chunk_of line all ∷ [])) ≡ length (bytes_of chunks) + size_of line
+      sum : length (carried_bytes (chunks ++ chunk_of line all ∷ [])) ≡ length (carried_bytes chunks) + size_of line
       sum = ap length (bytes_more chunks (chunk_of line all))
-          ∙ (length-append (bytes_of chunks) all ∙ ap (λ n. length (bytes_of chunks) + n) yet.1)
+          ∙ (length-append (carried_bytes chunks) all ∙ ap (λ n. length (carried_bytes chunks) + n) yet.1)
 
       feed : (t : Bool) → nat_eq b 10 ≡ t → Now (print_chunks chunks ++ ((print_size_line line ++ (all ++ 13 ∷ [])) ++ b ∷ []))
       feed true is =
@@ -148,7 +149,7 @@ module _ (chunks : List Chunk) (are : AreChunks chunks) (b : ℕ) where
   trailer_shows : (last : SizeLine) (bytes trailer : List ℕ) (shown : Shown) → IsLastLine last → Shows Trailer trailer shown
       → bytes ≡ print_chunks chunks ++ (print_size_line last ++ trailer) → (sight : Sight) × ShowsBody bytes sight
   trailer_shows last bytes trailer Whole is shows cut =
-      (whole (bytes_of chunks), (chunks, last, trailer, are, is, shows, cut, refl))
+      (whole (carried_bytes chunks), (chunks, last, trailer, are, is, shows, cut, refl))
   trailer_shows last bytes trailer (Bad at) is shows cut =
       (broken (length (print_chunks chunks ++ print_size_line last) + at), inr (chunks, last, trailer, at, are, is, shows, cut, refl))
   trailer_shows last bytes trailer Large is shows cut = (large, inr (inr (chunks, last, trailer, are, is, shows, cut)))

@@ -10,11 +10,11 @@ use Rattle.ba_http_head.specs.declared.faults.HttpFault.{HttpFault}
 use Rattle.ba_http_head.specs.declared.faults.HttpFault.TheVariants.{Memory, BadHead, Length as NoLength, TooLarge, BadChunk, Truncated}
 use Rattle.ba_http_head.specs.declared.faults.HttpFault.TheVariants.{Read}
 use Rattle.ba_http_head.specs.declared.headings.Heading.{Heading}
-use Rattle.ba_http.specs.Messages.{Message, Decides, IsUnfinished, EndsAtInput, Reads}
+use Rattle.ba_http.specs.Messages.{HttpMessage, Decides, IsUnfinished, EndsAtInput, Reads}
 use Rattle.ba_http.specs.Answers.{TakesLittleMore}
 use Rattle.ba_http.proofs.OneMessage.{decision_settles}
 
-module _ (heading : Heading) (old new : Option (List ℕ)) (before last : List ℕ) (result : Result Message HttpFault)
+module _ (heading : Heading) (old new : Option (List ℕ)) (before last : List ℕ) (result : Result HttpMessage HttpFault)
     (consumed : Consumes old new (before ++ last)) (yet : IsUnfinished heading before) (small : length last ≤ BLOCK) where
   later : (n : ℕ) → Decides heading (take n (before ++ last)) result → length before < n
   later n decides =
@@ -34,7 +34,7 @@ module _ (heading : Heading) (old new : Option (List ℕ)) (before last : List �
     omega (arith, within, later n decides, small, length-drop n (before ++ last), length-append before last),
   )
 
-pub after_message : (heading : Heading) (old new : Option (List ℕ)) (message : Message) → Reads heading old new (Ok message)
+pub after_message : (heading : Heading) (old new : Option (List ℕ)) (message : HttpMessage) → Reads heading old new (Ok message)
     → TakesLittleMore heading old new (Ok message)
     ⊎ ((taken : List ℕ) × Consumes old new taken × EndsAtInput heading taken message × IsAtEnd new)
 after_message heading old new message r =

@@ -22,7 +22,7 @@ use Rattle.ba_http_head.specs.Heads.{StartLine, asks, answers, SaysHead, IsHead}
 use Rattle.ba_http_head.specs.Lengths.{length_by, length_of, needed_length, counted_length, is_length, is_chunked, values_of}
 use Rattle.ba_http_head.specs.Looks.{Shows}
 use Rattle.ba_http_chunks.specs.Transfers.{Sight, whole, broken, large}
-use Rattle.ba_http.specs.Messages.{EndsBody, IsShort, Message, ShowsAfterHead, Decides, IsUnfinished}
+use Rattle.ba_http.specs.Messages.{EndsBody, IsShortTransfer, HttpMessage, ShowsAfterHead, Decides, IsUnfinished}
 use Rattle.ba_http.specs.Answers.{SaysNoHead, SaysNoBody, SaysNoMessage}
 use Rattle.ba_http.proofs.NotNever.{NotNever, sure, follow}
 use Rattle.ba_http.proofs.HeadsShow.{HeadSeen, goes_on, shows, head_seen}
@@ -102,13 +102,13 @@ head_says Trailer prefix message is = absurd message
 -- what is seen of bytes
 data MessageSeen (heading : Heading) (bytes : List ℕ) : Type 0 where
   unfinished : IsUnfinished heading bytes → MessageSeen heading bytes
-  decided : (n : ℕ) → (result : Result Message HttpFault) → n ≤ length bytes → Decides heading (take n bytes) result
+  decided : (n : ℕ) → (result : Result HttpMessage HttpFault) → n ≤ length bytes → Decides heading (take n bytes) result
       → MessageSeen heading bytes
 
 -- after a whole head with a length, or with none
 module _ (heading : Heading) (bytes : List ℕ) (n : ℕ) (within : n ≤ length bytes) (start : StartLine) (said : Option Length)
     (is : IsHead heading (take n bytes) start (Ok said)) where
-  short : IsShort said (drop n bytes) → MessageSeen heading bytes
+  short : IsShortTransfer said (drop n bytes) → MessageSeen heading bytes
   short yet = unfinished (inr (said, (take n bytes, drop n bytes, start, sym (take-append-drop n bytes), is, yet)))
 
   at : (m : ℕ) → take (n + m) bytes ≡ take n bytes ++ take m (drop n bytes)

@@ -17,10 +17,10 @@ use Rattle.ba_http_head.specs.Looks.{Shows}
 use Rattle.ba_http_head.proofs.Once.{first_of, shows_once, says_one}
 use Rattle.ba_http_chunks.specs.Transfers.{Sight, whole, broken, large}
 use Rattle.ba_http_chunks.proofs.Sights.{sights_once, sight_settles}
-use Rattle.ba_http.specs.Messages.{EndsBody, IsShort, Message, Decides, IsUnfinished}
+use Rattle.ba_http.specs.Messages.{EndsBody, IsShortTransfer, HttpMessage, Decides, IsUnfinished}
 
 -- what is answered where this shows itself of the body
-abbrev answer_of : StartLine → Sight → Result Message HttpFault
+abbrev answer_of : StartLine → Sight → Result HttpMessage HttpFault
 answer_of start (whole body) = Ok (record { start = start; body = body })
 answer_of start (broken place) = Err (BadChunk place)
 answer_of start large = Err TooLarge
@@ -38,7 +38,7 @@ abbrev says_fault : HttpFault → Result (Option Length) HttpFault
 says_fault fault = Err fault
 
 -- how an answer comes
-data Ruling (heading : Heading) (bytes : List ℕ) (result : Result Message HttpFault) : Type 0 where
+data Ruling (heading : Heading) (bytes : List ℕ) (result : Result HttpMessage HttpFault) : Type 0 where
   at_head : (shown : Shown) → Shows heading bytes shown → (shown ≡ Whole → ⊥) → result ≡ Err (refusal_of shown)
       → Ruling heading bytes result
   by_fields : (start : StartLine) → (fault : HttpFault) → IsHead heading bytes start (Err fault) → result ≡ Err fault
@@ -46,7 +46,7 @@ data Ruling (heading : Heading) (bytes : List ℕ) (result : Result Message Http
   by_body : (prefix transfer : List ℕ) → (start : StartLine) → (said : Option Length) → (sight : Sight) → bytes ≡ prefix ++ transfer
       → IsHead heading prefix start (Ok said) → EndsBody said transfer sight → result ≡ answer_of start sight → Ruling heading bytes result
 
-ruled : (heading : Heading) (bytes : List ℕ) (result : Result Message HttpFault) → Decides heading bytes result
+ruled : (heading : Heading) (bytes : List ℕ) (result : Result HttpMessage HttpFault) → Decides heading bytes result
     → Ruling heading bytes result
 ruled heading bytes (Ok message) d = by_body d.0 d.1 message.start d.2 (whole message.body) d.3 d.4 d.5 refl
 ruled heading bytes (Err Memory) d = absurd d
@@ -85,7 +85,7 @@ ends_once None bytes i j large large first second p q =
 
 -- where something shows itself of a body, it isn't short
 ends_settle : (said : Option Length) (bytes : List ℕ) (i : ℕ) (a : Sight) → i ≤ length bytes → EndsBody said (take i bytes) a
-    → IsShort said bytes → ⊥
+    → IsShortTransfer said bytes → ⊥
 ends_settle (Some (Counted n)) bytes i (whole x) within p short = omega (arith, p.0, length-take-le i bytes within, short)
 ends_settle (Some (Counted n)) bytes i (broken x) within p short = absurd p
 ends_settle (Some (Counted n)) bytes i large within p short = absurd p
@@ -123,7 +123,7 @@ module _ (bytes : List ℕ) (n : ℕ) (within : n ≤ length bytes) (prefix tran
   transfer_in = omega (arith, ap length after_is, length-append transfer (drop n bytes))
 
 module _ (heading : Heading) (bytes : List ℕ) (m n : ℕ) (first : m ≤ length bytes) (second : n ≤ length bytes) where
-  once : (a b : Result Message HttpFault) → Ruling heading (take m bytes) a → Ruling heading (take n bytes) b → (m ≡ n) × (a ≡ b)
+  once : (a b : Result HttpMessage HttpFault) → Ruling heading (take m bytes) a → Ruling heading (take n bytes) b → (m ≡ n) × (a ≡ b)
   once a b (at_head s x never p) (at_head t y none q) =
       let same = shows_once heading bytes m n s t first second x y in
       (same.0, p ∙ ap (λ v. Err (refusal_of v)) same.1 ∙ sym q)
@@ -187,7 +187,7 @@ module _ (heading : Heading) (bytes : List ℕ) (m n : ℕ) (first : m ≤ lengt
       option_of : (u v : Option Length) → says_length u ≡ says_length v → u ≡ v
       option_of u v is = cc
 
-pub decides_once : (heading : Heading) (bytes : List ℕ) (m n : ℕ) (a b : Result Message HttpFault) → m ≤ length bytes → n ≤ length bytes
+pub decides_once : (heading : Heading) (bytes : List ℕ) (m n : ℕ) (a b : Result HttpMessage HttpFault) → m ≤ length bytes → n ≤ length bytes
     → Decides heading (take m bytes) a → Decides heading (take n bytes) b → (m ≡ n) × (a ≡ b)
 decides_once heading bytes m n a b first second x y =
     once heading bytes m n first second a b (ruled heading (take m bytes) a x) (ruled heading (take n bytes) b y)
@@ -198,7 +198,7 @@ pub closed : (heading : Heading) (bytes : List ℕ) (k : ℕ) (shown : Shown) �
 closed heading bytes k shown within shows yet = yet k within (first_of heading (take k bytes) shown shows).0
 
 module _ (heading : Heading) (bytes : List ℕ) (n : ℕ) (within : n ≤ length bytes) where
-  settled : (a : Result Message HttpFault) → Ruling heading (take n bytes) a → IsUnfinished heading bytes → ⊥
+  settled : (a : Result HttpMessage HttpFault) → Ruling heading (take n bytes) a → IsUnfinished heading bytes → ⊥
   settled a (at_head s x never p) yet =
       elim yet [
         | inl yet_open ↦ closed heading bytes n s within x yet_open
@@ -246,13 +246,13 @@ module _ (heading : Heading) (bytes : List ℕ) (n : ℕ) (within : n ≤ length
             ∙ ap (λ v. h.1 ++ v) (none_left bytes) ∙ append-nil h.1 in
             let ends = subst (λ v. EndsBody said v sight) (sym (transfer_is bytes n within prefix transfer cut)) e in
             ends_settle said (drop (length prefix) bytes) (length transfer) sight (transfer_in bytes n within prefix transfer cut) ends
-            (subst (λ v. IsShort said v) (sym rest) (subst (λ v. IsShort v h.1) (sym lengths) h.5))
+            (subst (λ v. IsShortTransfer said v) (sym rest) (subst (λ v. IsShortTransfer v h.1) (sym lengths) h.5))
       ]
     where
       none_left : (xs : List ℕ) → drop (length xs) xs ≡ []
       none_left [] = refl
       none_left (x ∷ xs) = none_left xs
 
-pub decision_settles : (heading : Heading) (bytes : List ℕ) (n : ℕ) (a : Result Message HttpFault) → n ≤ length bytes
+pub decision_settles : (heading : Heading) (bytes : List ℕ) (n : ℕ) (a : Result HttpMessage HttpFault) → n ≤ length bytes
     → Decides heading (take n bytes) a → ¬ (IsUnfinished heading bytes)
 decision_settles heading bytes n a within x yet = settled heading bytes n within a (ruled heading (take n bytes) a x) yet

@@ -8,7 +8,7 @@ use Rattle.ba_http_head.specs.declared.scans.Shown.{Shown}
 use Rattle.ba_http_head.specs.HeadLines.{IsOpen}
 use Rattle.ba_http_head.specs.Looks.{Shows}
 use Rattle.ba_http_chunks.specs.Transfers.{IsUnended, ShowsBody, Sight}
-use Rattle.ba_http.specs.Messages.{Message, Decides, IsUnfinished}
+use Rattle.ba_http.specs.Messages.{HttpMessage, Decides, IsUnfinished}
 
 -- nothing shows itself of a head or of a trailer, nor are they open
 abbrev pub SaysNoHead : Heading → List ℕ → Type 0
@@ -23,9 +23,9 @@ SaysNoBody bytes = ¬ (IsUnended bytes) × ((n : ℕ) (sight : Sight) → n ≤ 
 abbrev pub SaysNoMessage : Heading → List ℕ → Type 0
 SaysNoMessage heading bytes =
     ¬ (IsUnfinished heading bytes)
-    × ((n : ℕ) (result : Result Message HttpFault) → n ≤ length bytes → ¬ (Decides heading (take n bytes) result))
+    × ((n : ℕ) (result : Result HttpMessage HttpFault) → n ≤ length bytes → ¬ (Decides heading (take n bytes) result))
 
 -- the bytes were taken by which this shows itself, and less than a block after them
-abbrev pub TakesLittleMore : Heading → Option (List ℕ) → Option (List ℕ) → Result Message HttpFault → Type 0
+abbrev pub TakesLittleMore : Heading → Option (List ℕ) → Option (List ℕ) → Result HttpMessage HttpFault → Type 0
 TakesLittleMore heading old new result =
     (taken : List ℕ) × (more : List ℕ) × Consumes old new (taken ++ more) × Decides heading taken result × (length more < BLOCK)

@@ -29,13 +29,13 @@ EndsBody None transfer (broken place) = ⊥
 EndsBody None transfer large = length transfer ≡ MOST_BODY + 1
 
 -- nothing has shown itself of the body
-abbrev pub IsShort : Option Length → List ℕ → Type 0
-IsShort (Some (Counted n)) transfer = length transfer < n
-IsShort (Some Chunked) transfer = IsUnended transfer
-IsShort None transfer = length transfer ≤ MOST_BODY
+abbrev pub IsShortTransfer : Option Length → List ℕ → Type 0
+IsShortTransfer (Some (Counted n)) transfer = length transfer < n
+IsShortTransfer (Some Chunked) transfer = IsUnended transfer
+IsShortTransfer None transfer = length transfer ≤ MOST_BODY
 
 -- a message: what its first line says, and its body
-pub record Message : Type 0 where
+pub record HttpMessage : Type 0 where
   pub start : StartLine
   pub body : List ℕ
 
@@ -46,7 +46,7 @@ ShowsAfterHead heading bytes start sight =
     × IsHead heading prefix start (Ok length) × EndsBody length transfer sight
 
 -- at the last of these bytes, and not before, it shows itself that this is the message, or that there is none and why
-abbrev pub Decides : Heading → List ℕ → Result Message HttpFault → Type 0
+abbrev pub Decides : Heading → List ℕ → Result HttpMessage HttpFault → Type 0
 Decides heading bytes (Ok message) = ShowsAfterHead heading bytes message.start (whole message.body)
 Decides heading bytes (Err Memory) = ⊥
 Decides heading bytes (Err (BadHead place)) = Shows heading bytes (Bad place)
@@ -63,7 +63,7 @@ Decides heading bytes (Err Read) = ⊥
 abbrev pub IsAfterHead : Heading → List ℕ → Option Length → Type 0
 IsAfterHead heading bytes length =
     (prefix : List ℕ) × (transfer : List ℕ) × (start : StartLine) × (bytes ≡ prefix ++ transfer)
-    × IsHead heading prefix start (Ok length) × IsShort length transfer
+    × IsHead heading prefix start (Ok length) × IsShortTransfer length transfer
 
 -- nothing has shown itself yet
 abbrev pub IsUnfinished : Heading → List ℕ → Type 0
@@ -74,13 +74,13 @@ abbrev pub IsCutShort : Heading → List ℕ → Type 0
 IsCutShort heading bytes = IsOpen heading bytes ⊎ ((length : Length) × IsAfterHead heading bytes (Some length))
 
 -- the end of the input after these bytes ends this message, whose head says no length
-abbrev pub EndsAtInput : Heading → List ℕ → Message → Type 0
+abbrev pub EndsAtInput : Heading → List ℕ → HttpMessage → Type 0
 EndsAtInput heading bytes message =
     (prefix : List ℕ) × (bytes ≡ prefix ++ message.body) × IsHead heading prefix message.start (Ok None)
-    × IsShort None message.body
+    × IsShortTransfer None message.body
 
 -- what the bytes that were taken say, or the end of the input after them
-abbrev pub MessageSo : Heading → List ℕ → Option (List ℕ) → Result Message HttpFault → Type 0
+abbrev pub MessageSo : Heading → List ℕ → Option (List ℕ) → Result HttpMessage HttpFault → Type 0
 MessageSo heading taken left (Ok message) =
     ((n : ℕ) × (n ≤ length taken) × Decides heading (take n taken) (Ok message)) ⊎ (EndsAtInput heading taken message × IsAtEnd left)
 MessageSo heading taken left (Err Memory) = ⊤
@@ -92,17 +92,17 @@ MessageSo heading taken left (Err Truncated) = IsCutShort heading taken × IsAtE
 MessageSo heading taken left (Err Read) = IsUnfinished heading taken
 
 -- Bytes were taken with which nothing had shown itself yet, and then a block at most.
-abbrev pub Reads : Heading → Option (List ℕ) → Option (List ℕ) → Result Message HttpFault → Type 0
+abbrev pub Reads : Heading → Option (List ℕ) → Option (List ℕ) → Result HttpMessage HttpFault → Type 0
 Reads heading old new result =
     (before : List ℕ) × (last : List ℕ) × Consumes old new (before ++ last) × IsUnfinished heading before × (length last ≤ BLOCK)
     × MessageSo heading (before ++ last) new result
 
 -- the message of a request
-abbrev pub request_message : Result Request HttpFault → Result Message HttpFault
+abbrev pub request_message : Result Request HttpFault → Result HttpMessage HttpFault
 request_message (Ok request) = Ok (record { start = asks request.method request.path; body = request.body })
 request_message (Err fault) = Err fault
 
 -- the message of a reply
-abbrev pub reply_message : Result Reply HttpFault → Result Message HttpFault
+abbrev pub reply_message : Result Reply HttpFault → Result HttpMessage HttpFault
 reply_message (Ok reply) = Ok (record { start = answers reply.code; body = reply.body })
 reply_message (Err fault) = Err fault

@@ -14,7 +14,7 @@ use Rattle.ba_http_body.specs.SizeLines.{SizeLine, print_size_line, MayBecomeSiz
 use Rattle.ba_http_body.specs.inside.Places.{HasRead, Steps}
 use Rattle.ba_http_body.proofs.Walks.{walk, walks}
 use Rattle.ba_http_chunks.specs.declared.chunks.TheConstants.{MOST_SIZE_LINE}
-use Rattle.ba_http_chunks.specs.Transfers.{size_of, IsShortLine, Chunk, IsChunk, print_chunk, print_chunks, bytes_of, BeginsSizeLine}
+use Rattle.ba_http_chunks.specs.Transfers.{size_of, IsShortLine, Chunk, IsChunk, print_chunk, print_chunks, carried_bytes, BeginsSizeLine}
 use Rattle.ba_http_chunks.specs.inside.Progress.{leading_digits}
 use Rattle.ba_http_chunks.proofs.Leading.{digits_are}
 use Rattle.ba_http_chunks.proofs.LinesGoOn.{begins, may_become}
@@ -212,16 +212,16 @@ chunk_passed body c rest is small =
     ∙ data_passed body c.bytes 0 (13 ∷ 10 ∷ rest)
 
 pub chunks_passed : (body : List ℕ) (chunks : List Chunk) (rest : List ℕ) → All IsChunk chunks
-    → length body + length (bytes_of chunks) ≤ MOST_BODY
-    → pass body (in_size First []) (print_chunks chunks ++ rest) ≡ pass (body ++ bytes_of chunks) (in_size First []) rest
+    → length body + length (carried_bytes chunks) ≤ MOST_BODY
+    → pass body (in_size First []) (print_chunks chunks ++ rest) ≡ pass (body ++ carried_bytes chunks) (in_size First []) rest
 chunks_passed body [] rest all small = ap (λ v. pass v (in_size First []) rest) (sym (append-nil body))
 chunks_passed body (c ∷ chunks) rest all small =
     ap (pass body (in_size First [])) (append_assoc (print_chunk c) (print_chunks chunks) rest)
     ∙ chunk_passed body c (print_chunks chunks ++ rest) (All-head IsChunk c chunks all)
-    (omega (arith, small, length-append c.bytes (bytes_of chunks)))
+    (omega (arith, small, length-append c.bytes (carried_bytes chunks)))
     ∙ chunks_passed (body ++ c.bytes) chunks rest (All-tail IsChunk c chunks all)
-    (omega (arith, small, length-append c.bytes (bytes_of chunks), length-append body c.bytes))
-    ∙ ap (λ v. pass v (in_size First []) rest) (append_assoc body c.bytes (bytes_of chunks))
+    (omega (arith, small, length-append c.bytes (carried_bytes chunks), length-append body c.bytes))
+    ∙ ap (λ v. pass v (in_size First []) rest) (append_assoc body c.bytes (carried_bytes chunks))
 
 pub wrong_return : (body : List ℕ) (b : ℕ) (rest : List ℕ) → nat_eq b 13 ≡ false → pass body (in_data 0) (b ∷ rest) ≡ to_wrong rest
 unfolding pass

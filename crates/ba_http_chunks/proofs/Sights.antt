@@ -11,7 +11,8 @@ use Rattle.ba_http_head.specs.Looks.{Shows}
 use Rattle.ba_http_head.proofs.Once.{first_of, shows_once}
 use Rattle.ba_http_body.specs.declared.size_lines.Place.TheVariants.{First}
 use Rattle.ba_http_body.specs.SizeLines.{SizeLine, print_size_line}
-use Rattle.ba_http_chunks.specs.Transfers.{size_of, Chunk, print_chunks, bytes_of, AreChunks, IsLastLine, BeginsChunk, Position, in_line}
+use Rattle.ba_http_chunks.specs.Transfers.{size_of, Chunk, print_chunks, carried_bytes, AreChunks, IsLastLine, BeginsChunk, Position}
+use Rattle.ba_http_chunks.specs.Transfers.{in_line}
 use Rattle.ba_http_chunks.specs.Transfers.{in_bytes, in_end, in_trailer, bytes_at, GoesOn, IsUnended, IsWrongByte, Sight, whole, broken}
 use Rattle.ba_http_chunks.specs.Transfers.{large, ShowsBody}
 use Rattle.ba_http_chunks.proofs.Passes.{in_size, in_data, before_feed, Led, on, to_limit, to_wrong, to_trailer, pass, line_begun}
@@ -34,7 +35,7 @@ data Shape (t : List ℕ) (sight : Sight) (extra : List ℕ) : Type 0 where
 
 -- after whole chunks
 after_chunks : (chunks : List Chunk) (t rest extra : List ℕ) → AreChunks chunks → t ≡ print_chunks chunks ++ rest
-    → pass [] (in_size First []) (t ++ extra) ≡ pass (bytes_of chunks) (in_size First []) (rest ++ extra)
+    → pass [] (in_size First []) (t ++ extra) ≡ pass (carried_bytes chunks) (in_size First []) (rest ++ extra)
 after_chunks chunks t rest extra are is =
     ap (λ v. pass [] (in_size First []) (v ++ extra)) is
     ∙ ap (pass [] (in_size First [])) (append_assoc (print_chunks chunks) rest extra)
@@ -43,40 +44,40 @@ after_chunks chunks t rest extra are is =
 -- in a chunk
 in_chunk : (chunks : List Chunk) (line : SizeLine) (some rest : List ℕ) (left : ℕ) → BeginsChunk chunks line
     → length some + left ≡ size_of line
-    → pass (bytes_of chunks) (in_size First []) ((print_size_line line ++ some) ++ rest)
-    ≡ pass (bytes_of chunks ++ some) (in_data left) rest
+    → pass (carried_bytes chunks) (in_size First []) ((print_size_line line ++ some) ++ rest)
+    ≡ pass (carried_bytes chunks ++ some) (in_data left) rest
 in_chunk chunks line some rest left begun sum =
-    ap (pass (bytes_of chunks) (in_size First [])) (append_assoc (print_size_line line) some rest)
-    ∙ line_passed (bytes_of chunks) line (some ++ rest) begun.line
-    ∙ data_begun (bytes_of chunks) (size_of line) (some ++ rest) begun.some begun.small
-    ∙ ap (λ n. pass (bytes_of chunks) (in_data n) (some ++ rest)) (sym sum)
-    ∙ data_passed (bytes_of chunks) some left rest
+    ap (pass (carried_bytes chunks) (in_size First [])) (append_assoc (print_size_line line) some rest)
+    ∙ line_passed (carried_bytes chunks) line (some ++ rest) begun.line
+    ∙ data_begun (carried_bytes chunks) (size_of line) (some ++ rest) begun.some begun.small
+    ∙ ap (λ n. pass (carried_bytes chunks) (in_data n) (some ++ rest)) (sym sum)
+    ∙ data_passed (carried_bytes chunks) some left rest
 
 -- in the trailer
 to_the_trailer : (chunks : List Chunk) (last : SizeLine) (t trailer extra : List ℕ) → AreChunks chunks → IsLastLine last
     → t ≡ print_chunks chunks ++ (print_size_line last ++ trailer)
-    → pass [] (in_size First []) (t ++ extra) ≡ to_trailer (bytes_of chunks) (trailer ++ extra)
+    → pass [] (in_size First []) (t ++ extra) ≡ to_trailer (carried_bytes chunks) (trailer ++ extra)
 to_the_trailer chunks last t trailer extra are is cut =
     after_chunks chunks t (print_size_line last ++ trailer) extra are cut
-    ∙ ap (pass (bytes_of chunks) (in_size First [])) (append_assoc (print_size_line last) trailer extra)
-    ∙ line_passed (bytes_of chunks) last (trailer ++ extra) is.line
-    ∙ none_left (bytes_of chunks) (size_of last) (trailer ++ extra) is.none
+    ∙ ap (pass (carried_bytes chunks) (in_size First [])) (append_assoc (print_size_line last) trailer extra)
+    ∙ line_passed (carried_bytes chunks) last (trailer ++ extra) is.line
+    ∙ none_left (carried_bytes chunks) (size_of last) (trailer ++ extra) is.none
 
 wrong_led : (chunks : List Chunk) (at : Position) (byte : ℕ) (extra : List ℕ) → AreChunks chunks → GoesOn chunks at → IsWrongByte at byte
-    → pass (bytes_of chunks) (in_size First []) ((bytes_at at ++ byte ∷ []) ++ extra) ≡ to_wrong extra
-wrong_led chunks (in_line line) byte extra are yet bad = line_wrong (bytes_of chunks) line byte extra yet.0 bad.1 bad.0
+    → pass (carried_bytes chunks) (in_size First []) ((bytes_at at ++ byte ∷ []) ++ extra) ≡ to_wrong extra
+wrong_led chunks (in_line line) byte extra are yet bad = line_wrong (carried_bytes chunks) line byte extra yet.0 bad.1 bad.0
 wrong_led chunks (in_bytes line some) byte extra are yet bad =
-    ap (pass (bytes_of chunks) (in_size First [])) (append_assoc (print_size_line line ++ some) (byte ∷ []) extra)
+    ap (pass (carried_bytes chunks) (in_size First [])) (append_assoc (print_size_line line ++ some) (byte ∷ []) extra)
     ∙ in_chunk chunks line some (byte ∷ extra) 0 yet.0 (omega (arith, bad.0))
-    ∙ wrong_return (bytes_of chunks ++ some) byte extra (ne_eqb byte 13 bad.1)
+    ∙ wrong_return (carried_bytes chunks ++ some) byte extra (ne_eqb byte 13 bad.1)
 wrong_led chunks (in_end line all) byte extra are yet bad =
-    ap (pass (bytes_of chunks) (in_size First []))
+    ap (pass (carried_bytes chunks) (in_size First []))
     (append_assoc (print_size_line line ++ (all ++ 13 ∷ [])) (byte ∷ []) extra
     ∙ ap (λ v. v ++ byte ∷ extra) (sym (append_assoc (print_size_line line) all (13 ∷ [])))
     ∙ append_assoc (print_size_line line ++ all) (13 ∷ []) (byte ∷ extra))
     ∙ in_chunk chunks line all (13 ∷ byte ∷ extra) 0 yet.0 (omega (arith, yet.1))
-    ∙ return_passed (bytes_of chunks ++ all) (byte ∷ extra)
-    ∙ wrong_feed (bytes_of chunks ++ all) byte extra (ne_eqb byte 10 bad)
+    ∙ return_passed (carried_bytes chunks ++ all) (byte ∷ extra)
+    ∙ wrong_feed (carried_bytes chunks ++ all) byte extra (ne_eqb byte 10 bad)
 wrong_led chunks (in_trailer last trailer) byte extra are yet bad = absurd bad
 
 both_sizes : (before trailer t : List ℕ) → t ≡ before ++ trailer → length t ≡ length before + length trailer
@@ -86,7 +87,7 @@ shaped : (t : List ℕ) (sight : Sight) (extra : List ℕ) → ShowsBody t sight
 shaped t (whole body) extra s =
     let split : t ≡ (print_chunks s.0 ++ print_size_line s.1) ++ s.2 =
     s.6 ∙ sym (append_assoc (print_chunks s.0) (print_size_line s.1) s.2) in
-    trailing (bytes_of s.0) s.2 Whole (to_the_trailer s.0 s.1 t s.2 extra s.3 s.4 s.6) s.5
+    trailing (carried_bytes s.0) s.2 Whole (to_the_trailer s.0 s.1 t s.2 extra s.3 s.4 s.6) s.5
     (omega (arith, both_sizes (print_chunks s.0 ++ print_size_line s.1) s.2 t split)) (ap whole s.7)
 shaped t (broken place) extra s =
     elim s [
@@ -104,22 +105,22 @@ shaped t (broken place) extra s =
           r.7 ∙ sym (append_assoc (print_chunks r.0) (print_size_line r.1) r.2) in
           let size = both_sizes (print_chunks r.0 ++ print_size_line r.1) r.2 t split in
           let at : place ≡ length t - length r.2 + r.3 = omega (arith, r.8, size) in
-          trailing (bytes_of r.0) r.2 (Bad r.3) (to_the_trailer r.0 r.1 t r.2 extra r.4 r.5 r.7) r.6
+          trailing (carried_bytes r.0) r.2 (Bad r.3) (to_the_trailer r.0 r.1 t r.2 extra r.4 r.5 r.7) r.6
           (omega (arith, size)) (ap broken at)
     ]
 shaped t large extra s =
     elim s [
       | inl l ↦
-          limit (after_chunks l.0 t (l.1 ++ l.2 ∷ []) extra l.3 l.6 ∙ line_too_long (bytes_of l.0) l.1 l.2 extra l.4.0 l.5) refl
+          limit (after_chunks l.0 t (l.1 ++ l.2 ∷ []) extra l.3 l.6 ∙ line_too_long (carried_bytes l.0) l.1 l.2 extra l.4.0 l.5) refl
       | inr more ↦
           elim more [
             | inl b ↦
-                limit (after_chunks b.0 t (print_size_line b.1) extra b.2 b.5 ∙ line_passed (bytes_of b.0) b.1 extra b.3
-                ∙ data_too_long (bytes_of b.0) (size_of b.1) extra b.2.small b.4) refl
+                limit (after_chunks b.0 t (print_size_line b.1) extra b.2 b.5 ∙ line_passed (carried_bytes b.0) b.1 extra b.3
+                ∙ data_too_long (carried_bytes b.0) (size_of b.1) extra b.2.small b.4) refl
             | inr r ↦
                 let split : t ≡ (print_chunks r.0 ++ print_size_line r.1) ++ r.2 =
                 r.6 ∙ sym (append_assoc (print_chunks r.0) (print_size_line r.1) r.2) in
-                trailing (bytes_of r.0) r.2 Large (to_the_trailer r.0 r.1 t r.2 extra r.3 r.4 r.6) r.5
+                trailing (carried_bytes r.0) r.2 Large (to_the_trailer r.0 r.1 t r.2 extra r.3 r.4 r.6) r.5
                 (omega (arith, both_sizes (print_chunks r.0 ++ print_size_line r.1) r.2 t split)) refl
           ]
     ]
@@ -202,40 +203,40 @@ data Going (bytes : List ℕ) : Type 0 where
   trails : (body trailer : List ℕ) → pass [] (in_size First []) bytes ≡ to_trailer body trailer → IsOpen Trailer trailer → Going bytes
 
 bare : (chunks : List Chunk) (bytes rest : List ℕ) → AreChunks chunks → bytes ≡ print_chunks chunks ++ rest
-    → pass [] (in_size First []) bytes ≡ pass (bytes_of chunks) (in_size First []) rest
+    → pass [] (in_size First []) bytes ≡ pass (carried_bytes chunks) (in_size First []) rest
 bare chunks bytes rest are is =
     ap (pass [] (in_size First [])) (sym (append-nil bytes)) ∙ after_chunks chunks bytes rest [] are is
-    ∙ ap (pass (bytes_of chunks) (in_size First [])) (append-nil rest)
+    ∙ ap (pass (carried_bytes chunks) (in_size First [])) (append-nil rest)
 
 -- of a chunk some bytes are left, or none
 in_chunk_bare : (chunks : List Chunk) (line : SizeLine) (some rest : List ℕ) (left : ℕ) → BeginsChunk chunks line
     → length some + left ≡ size_of line
-    → pass (bytes_of chunks) (in_size First []) (print_size_line line ++ (some ++ rest))
-    ≡ pass (bytes_of chunks ++ some) (in_data left) rest
+    → pass (carried_bytes chunks) (in_size First []) (print_size_line line ++ (some ++ rest))
+    ≡ pass (carried_bytes chunks ++ some) (in_data left) rest
 in_chunk_bare chunks line some rest left begun sum =
-    ap (pass (bytes_of chunks) (in_size First [])) (sym (append_assoc (print_size_line line) some rest))
+    ap (pass (carried_bytes chunks) (in_size First [])) (sym (append_assoc (print_size_line line) some rest))
     ∙ in_chunk chunks line some rest left begun sum
 
 going : (bytes : List ℕ) (chunks : List Chunk) (at : Position) → AreChunks chunks → GoesOn chunks at
     → bytes ≡ print_chunks chunks ++ bytes_at at → Going bytes
 going bytes chunks (in_line line) are yet is =
-    let run = line_begun (bytes_of chunks) line [] yet.0 yet.1 in
-    goes (bare chunks bytes line are is ∙ ap (pass (bytes_of chunks) (in_size First [])) (sym (append-nil line)) ∙ run.2
-    ∙ none_more (bytes_of chunks) (in_size run.0 line))
+    let run = line_begun (carried_bytes chunks) line [] yet.0 yet.1 in
+    goes (bare chunks bytes line are is ∙ ap (pass (carried_bytes chunks) (in_size First [])) (sym (append-nil line)) ∙ run.2
+    ∙ none_more (carried_bytes chunks) (in_size run.0 line))
 going bytes chunks (in_bytes line some) are yet is =
     let sum : length some + (size_of line - length some) ≡ size_of line = omega (arith, yet.1) in
     goes (bare chunks bytes (print_size_line line ++ some) are is
-    ∙ ap (λ v. pass (bytes_of chunks) (in_size First []) (print_size_line line ++ v)) (sym (append-nil some))
+    ∙ ap (λ v. pass (carried_bytes chunks) (in_size First []) (print_size_line line ++ v)) (sym (append-nil some))
     ∙ in_chunk_bare chunks line some [] (size_of line - length some) yet.0 sum
-    ∙ none_more (bytes_of chunks ++ some) (in_data (size_of line - length some)))
+    ∙ none_more (carried_bytes chunks ++ some) (in_data (size_of line - length some)))
 going bytes chunks (in_end line all) are yet is =
     goes (bare chunks bytes (print_size_line line ++ (all ++ 13 ∷ [])) are is
     ∙ in_chunk_bare chunks line all (13 ∷ []) 0 yet.0 (omega (arith, yet.1))
-    ∙ return_passed (bytes_of chunks ++ all) [] ∙ none_more (bytes_of chunks ++ all) before_feed)
+    ∙ return_passed (carried_bytes chunks ++ all) [] ∙ none_more (carried_bytes chunks ++ all) before_feed)
 going bytes chunks (in_trailer last trailer) are yet is =
-    trails (bytes_of chunks) trailer
+    trails (carried_bytes chunks) trailer
     (ap (pass [] (in_size First [])) (sym (append-nil bytes)) ∙ to_the_trailer chunks last bytes trailer [] are yet.0 is
-    ∙ ap (to_trailer (bytes_of chunks)) (append-nil trailer)) yet.1
+    ∙ ap (to_trailer (carried_bytes chunks)) (append-nil trailer)) yet.1
 
 settled_so : (bytes : List ℕ) (n : ℕ) (a : Sight) → n ≤ length bytes → Shape (take n bytes) a (drop n bytes) → Going bytes → ⊥
 settled_so bytes n a within (limit x p) (goes yet) =

@@ -16,7 +16,8 @@ use Rattle.ba_http_chunks.specs.declared.chunks.Spot.{Spot}
 use Rattle.ba_http_chunks.specs.declared.chunks.Spot.TheVariants.{Line, Bytes, Feed}
 use Rattle.ba_http_chunks.specs.declared.chunks.Turned.{Turned}
 use Rattle.ba_http_chunks.specs.declared.chunks.Turned.TheVariants.{On, Last}
-use Rattle.ba_http_chunks.specs.Transfers.{size_of, IsShortLine, Chunk, IsChunk, print_chunk, print_chunks, bytes_of, Position, in_line}
+use Rattle.ba_http_chunks.specs.Transfers.{size_of, IsShortLine, Chunk, IsChunk, print_chunk, print_chunks, carried_bytes, Position}
+use Rattle.ba_http_chunks.specs.Transfers.{in_line}
 use Rattle.ba_http_chunks.specs.Transfers.{in_bytes, in_end, in_trailer, bytes_at, GoesOn, IsUnended, Breaks, Passes}
 use Rattle.ba_http_chunks.specs.inside.Progress.{SaysSoFar, body_at, got_at, IsAt, Stands, IsBeforeTrailer, Turns, Sized}
 use Rattle.ba_http_chunks.proofs.Leading.{says_size}
@@ -72,14 +73,14 @@ one_long c is = omega (
   is.some,
 )
 
-chunks_long : (chunks : List Chunk) → All IsChunk chunks → length (print_chunks chunks) ≤ 1027 * length (bytes_of chunks)
+chunks_long : (chunks : List Chunk) → All IsChunk chunks → length (print_chunks chunks) ≤ 1027 * length (carried_bytes chunks)
 chunks_long [] all = omega arith
 chunks_long (c ∷ chunks) all = omega (
   arith,
   chunks_long chunks (All-tail IsChunk c chunks all),
   one_long c (All-head IsChunk c chunks all),
   length-append (print_chunk c) (print_chunks chunks),
-  length-append c.bytes (bytes_of chunks),
+  length-append c.bytes (carried_bytes chunks),
 )
 
 long_at : (chunks : List Chunk) (at : Position) (spot : Spot) → IsAt spot chunks at → length (bytes_at at) ≤ 2 ^ 20
@@ -132,10 +133,10 @@ module _ (c : Chunks) (l : SizeSoFar) (here : c.spot ≡ Line l) (fed body : Lis
   is_fed : fed ≡ print_chunks s.chunks ++ there.0
   is_fed = s.is_fed ∙ ap (λ v. print_chunks s.chunks ++ bytes_at v) there.1
 
-  is_body : body ≡ bytes_of s.chunks ++ []
-  is_body = s.is_body ∙ ap (λ v. bytes_of s.chunks ++ body_at v) there.1
+  is_body : body ≡ carried_bytes s.chunks ++ []
+  is_body = s.is_body ∙ ap (λ v. carried_bytes s.chunks ++ body_at v) there.1
 
-  got : c.got ≡ length (bytes_of s.chunks)
+  got : c.got ≡ length (carried_bytes s.chunks)
   got = s.got ∙ ap (got_at s.chunks) there.1
 
   fed_on : fed ++ b ∷ [] ≡ print_chunks s.chunks ++ (there.0 ++ b ∷ [])
@@ -221,7 +222,7 @@ module _ (c : Chunks) (l : SizeSoFar) (here : c.spot ≡ Line l) (fed body : Lis
       are = s.are;
       is_last = record { line = short_line; none = omega (arith, none, size_is) };
       is_fed = fed_line;
-      is_body = is_body ∙ append-nil (bytes_of s.chunks);
+      is_body = is_body ∙ append-nil (carried_bytes s.chunks);
       is_count = counted c.count fed (b ∷ []) s.count (bounded c fed body s) (omega arith);
     }
 
@@ -229,7 +230,7 @@ module _ (c : Chunks) (l : SizeSoFar) (here : c.spot ≡ Line l) (fed body : Lis
         → Stands (record { spot = Bytes size; got = min (c.got + size) (2 ^ 64 - 1); count = min (c.count + 1) (2 ^ 64 - 1) })
         (fed ++ b ∷ []) body
     chunk_begun some small =
-        let sum : min (c.got + size) (2 ^ 64 - 1) ≡ length (bytes_of s.chunks) + size_of end.0 = omega (arith, small, got, size_is) in
+        let sum : min (c.got + size) (2 ^ 64 - 1) ≡ length (carried_bytes s.chunks) + size_of end.0 = omega (arith, small, got, size_is) in
         record {
           chunks = s.chunks;
           at = in_bytes end.0 [];
@@ -279,10 +280,10 @@ module _ (c : Chunks) (left : ℕ) (here : c.spot ≡ Bytes left) (fed body : Li
   fed_so : fed ≡ print_chunks s.chunks ++ (print_size_line inside.0 ++ inside.1)
   fed_so = s.is_fed ∙ ap (λ v. print_chunks s.chunks ++ bytes_at v) inside.2
 
-  body_so : body ≡ bytes_of s.chunks ++ inside.1
-  body_so = s.is_body ∙ ap (λ v. bytes_of s.chunks ++ body_at v) inside.2
+  body_so : body ≡ carried_bytes s.chunks ++ inside.1
+  body_so = s.is_body ∙ ap (λ v. carried_bytes s.chunks ++ body_at v) inside.2
 
-  got_so : c.got ≡ length (bytes_of s.chunks) + size_of inside.0
+  got_so : c.got ≡ length (carried_bytes s.chunks) + size_of inside.0
   got_so = s.got ∙ ap (got_at s.chunks) inside.2
 
   -- more of its bytes
@@ -298,7 +299,7 @@ module _ (c : Chunks) (left : ℕ) (here : c.spot ≡ Bytes left) (fed body : Li
         got = got_so;
         is_fed = ap (λ v. v ++ more) fed_so ∙ append_assoc (print_chunks s.chunks) (print_size_line inside.0 ++ inside.1) more
             ∙ ap (λ v. print_chunks s.chunks ++ v) (append_assoc (print_size_line inside.0) inside.1 more);
-        is_body = ap (λ v. v ++ more) body_so ∙ append_assoc (bytes_of s.chunks) inside.1 more;
+        is_body = ap (λ v. v ++ more) body_so ∙ append_assoc (carried_bytes s.chunks) inside.1 more;
         count = counted c.count fed more s.count (bounded c fed body s)
             (omega (arith, few, inside.3.1, inside.3.0.small));
       }
@@ -340,9 +341,9 @@ chunks_more [] c = append-nil (print_chunk c)
 chunks_more (d ∷ chunks) c = ap (λ v. print_chunk d ++ v) (chunks_more chunks c)
     ∙ sym (append_assoc (print_chunk d) (print_chunks chunks) (print_chunk c))
 
-bytes_more : (chunks : List Chunk) (c : Chunk) → bytes_of (chunks ++ c ∷ []) ≡ bytes_of chunks ++ c.bytes
+bytes_more : (chunks : List Chunk) (c : Chunk) → carried_bytes (chunks ++ c ∷ []) ≡ carried_bytes chunks ++ c.bytes
 bytes_more [] c = append-nil c.bytes
-bytes_more (d ∷ chunks) c = ap (λ v. d.bytes ++ v) (bytes_more chunks c) ∙ sym (append_assoc d.bytes (bytes_of chunks) c.bytes)
+bytes_more (d ∷ chunks) c = ap (λ v. d.bytes ++ v) (bytes_more chunks c) ∙ sym (append_assoc d.bytes (carried_bytes chunks) c.bytes)
 
 abbrev chunk_of : SizeLine → List ℕ → Chunk
 chunk_of line bytes = record { line = line; bytes = bytes }
@@ -355,15 +356,15 @@ module _ (c : Chunks) (here : c.spot ≡ Feed) (fed body : List ℕ) (s : Stands
   fed_end : fed ≡ print_chunks s.chunks ++ (print_size_line ending.0 ++ (ending.1 ++ 13 ∷ []))
   fed_end = s.is_fed ∙ ap (λ v. print_chunks s.chunks ++ bytes_at v) ending.2
 
-  body_end : body ≡ bytes_of s.chunks ++ ending.1
-  body_end = s.is_body ∙ ap (λ v. bytes_of s.chunks ++ body_at v) ending.2
+  body_end : body ≡ carried_bytes s.chunks ++ ending.1
+  body_end = s.is_body ∙ ap (λ v. carried_bytes s.chunks ++ body_at v) ending.2
 
-  got_end : c.got ≡ length (bytes_of s.chunks) + size_of ending.0
+  got_end : c.got ≡ length (carried_bytes s.chunks) + size_of ending.0
   got_end = s.got ∙ ap (got_at s.chunks) ending.2
 
-  sum : length (bytes_of (s.chunks ++ chunk_of ending.0 ending.1 ∷ [])) ≡ length (bytes_of s.chunks) + size_of ending.0
+  sum : length (carried_bytes (s.chunks ++ chunk_of ending.0 ending.1 ∷ [])) ≡ length (carried_bytes s.chunks) + size_of ending.0
   sum = ap length (bytes_more s.chunks (chunk_of ending.0 ending.1))
-      ∙ (length-append (bytes_of s.chunks) ending.1 ∙ ap (λ n. length (bytes_of s.chunks) + n) ending.3.1)
+      ∙ (length-append (carried_bytes s.chunks) ending.1 ∙ ap (λ n. length (carried_bytes s.chunks) + n) ending.3.1)
 
   pub feed_taken : b ≡ 10
       → Stands (record {
@@ -391,7 +392,7 @@ module _ (c : Chunks) (here : c.spot ≡ Feed) (fed body : List ℕ) (s : Stands
         ∙ sym (chunks_more s.chunks (chunk_of ending.0 ending.1))
         ∙ sym (append-nil (print_chunks (s.chunks ++ chunk_of ending.0 ending.1 ∷ [])));
     is_body = body_end ∙ sym (bytes_more s.chunks (chunk_of ending.0 ending.1))
-        ∙ sym (append-nil (bytes_of (s.chunks ++ chunk_of ending.0 ending.1 ∷ [])));
+        ∙ sym (append-nil (carried_bytes (s.chunks ++ chunk_of ending.0 ending.1 ∷ [])));
     count = counted c.count fed (b ∷ []) s.count (bounded c fed body s) (omega arith);
   }
 

@@ -38,13 +38,13 @@ abbrev pub print_chunks : List Chunk → List ℕ
 print_chunks chunks = flat_map print_chunk chunks
 
 -- what chunks carry
-abbrev pub bytes_of : List Chunk → List ℕ
-bytes_of chunks = flat_map (λ (c : Chunk). c.bytes) chunks
+abbrev pub carried_bytes : List Chunk → List ℕ
+carried_bytes chunks = flat_map (λ (c : Chunk). c.bytes) chunks
 
 -- whole chunks, which carry no more than a body may have
 pub record AreChunks (chunks : List Chunk) : Type 0 where
   pub each : All IsChunk chunks
-  pub small : length (bytes_of chunks) ≤ MOST_BODY
+  pub small : length (carried_bytes chunks) ≤ MOST_BODY
 
 -- the last chunk's line, which says 0
 pub record IsLastLine (l : SizeLine) : Type 0 where
@@ -55,7 +55,7 @@ pub record IsLastLine (l : SizeLine) : Type 0 where
 abbrev pub IsTransfer : List ℕ → List ℕ → Type 0
 IsTransfer transfer body =
     (chunks : List Chunk) × (last : SizeLine) × (trailer : List ℕ) × AreChunks chunks × IsLastLine last × Shows Trailer trailer Whole
-    × (transfer ≡ print_chunks chunks ++ (print_size_line last ++ trailer)) × (body ≡ bytes_of chunks)
+    × (transfer ≡ print_chunks chunks ++ (print_size_line last ++ trailer)) × (body ≡ carried_bytes chunks)
 
 -- a size line begins with these bytes, and has more
 abbrev pub BeginsSizeLine : List ℕ → Type 0
@@ -65,7 +65,7 @@ BeginsSizeLine bytes = (byte : ℕ) × (more : List ℕ) × (l : SizeLine) × Is
 pub record BeginsChunk (chunks : List Chunk) (l : SizeLine) : Type 0 where
   pub line : IsShortLine l
   pub some : 0 < size_of l
-  pub small : length (bytes_of chunks) + size_of l ≤ MOST_BODY
+  pub small : length (carried_bytes chunks) + size_of l ≤ MOST_BODY
 
 -- where a transfer is, after whole chunks
 pub data Position : Type 0 where
@@ -119,7 +119,7 @@ Passes transfer =
     ((chunks : List Chunk) × (line : List ℕ) × (byte : ℕ) × AreChunks chunks × GoesOn chunks (in_line line)
     × (length line ≡ MOST_SIZE_LINE) × (transfer ≡ print_chunks chunks ++ (line ++ byte ∷ [])))
     ⊎ (((chunks : List Chunk) × (l : SizeLine) × AreChunks chunks × IsShortLine l
-    × (MOST_BODY < length (bytes_of chunks) + size_of l) × (transfer ≡ print_chunks chunks ++ print_size_line l))
+    × (MOST_BODY < length (carried_bytes chunks) + size_of l) × (transfer ≡ print_chunks chunks ++ print_size_line l))
     ⊎ ((chunks : List Chunk) × (last : SizeLine) × (trailer : List ℕ) × AreChunks chunks × IsLastLine last
     × Shows Trailer trailer Large × (transfer ≡ print_chunks chunks ++ (print_size_line last ++ trailer))))
 

@@ -86,9 +86,9 @@ lines_from index [] = []
 lines_from index (r ∷ records) = line_text index r ++ lines_from (index + 1) records
 
 -- the last line: that nothing is there yet, or the place where reading stopped and the bytes after that gate
-abbrev pub end_text : Scan → List ℕ
-end_text Fresh = codes "fresh\n"
-end_text (Found records end tail) = codes "end at " ++ (decimal end ++ (codes " tail " ++ (decimal tail ++ codes "\n")))
+abbrev pub closing_line : Scan → List ℕ
+closing_line Fresh = codes "fresh\n"
+closing_line (Found records end tail) = codes "end at " ++ (decimal end ++ (codes " tail " ++ (decimal tail ++ codes "\n")))
 
 -- the records that were found, none in a fresh file
 abbrev pub records_of : Scan → List Record
@@ -97,4 +97,4 @@ records_of (Found records end tail) = records
 
 -- the whole text
 abbrev pub listing : Scan → List ℕ
-listing scan = lines_from 0 (records_of scan) ++ end_text scan
+listing scan = lines_from 0 (records_of scan) ++ closing_line scan

@@ -1,6 +1,6 @@
 //! The lines of a listing, put behind other bytes.
 ghost use Rattle.std.specs.Prelude.{◌≡◌, ℕ, ◌++◌, [], take, OnOk, OnErr, IfOk};
-ghost use Rattle.ba_listing.specs.Listing.{line_text, lines_from, end_text, records_of, listing};
+ghost use Rattle.ba_listing.specs.Listing.{line_text, lines_from, closing_line, records_of, listing};
 
 use crate::words::{put_counted, put_number, put_record};
 use ba_core::{List, Memory, Octets};
@@ -35,7 +35,7 @@ pub fn put_line(alloc: Global, index: u64, r: &Record, out: &mut Octets) -> Resu
 
 /// Puts the last line of the listing last. After `Memory` nothing has changed.
 pub fn put_end(alloc: Global, scan: &Scan, out: &mut Octets) -> Result<(), Memory>
-    ensures ok { OnOk result (out.new ≡ out.old ++ end_text scan.now) }
+    ensures ok { OnOk result (out.new ≡ out.old ++ closing_line scan.now) }
     ensures err { OnErr result (out.new ≡ out.old) }
 {
     match scan {

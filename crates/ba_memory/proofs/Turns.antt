@@ -4,7 +4,7 @@ use Rattle.std.proofs.Common.{is_some, refl, sym, ◌∙◌, ap, subst}
 use Rattle.ba_ports.specs.Counts.{risen}
 use Rattle.ba_ports.specs.Disk.{InTurn, counted, if_counted, is_counted}
 use Rattle.ba_memory.specs.DiskValue.{MediumValue, DiskValue, IsUntroubled, after, changed_by, course, course_of, fails, goes_wrong, issued}
-use Rattle.ba_memory.specs.DiskValue.{Leads, run, step, synced_by, unless_failed}
+use Rattle.ba_memory.specs.DiskValue.{CallsLead, run, step, synced_by, unless_failed}
 use Rattle.ba_memory.specs.declared.changes.Change.{Change}
 use Rattle.ba_memory.specs.declared.changes.Change.TheVariants as change
 use Rattle.ba_memory.specs.declared.media.Armed.{Armed}
@@ -21,7 +21,7 @@ abbrev MediumLeads : MediumValue → List Call → MediumValue → Type 0
 MediumLeads a [] b = b ≡ a
 MediumLeads a (call ∷ calls) b = (call.failed ≡ fails call.request a) × MediumLeads (after call.request a) calls b
 
-on_medium : (calls : List Call) (a b : DiskValue) → Leads a calls b → MediumLeads a.medium calls b.medium
+on_medium : (calls : List Call) (a b : DiskValue) → CallsLead a calls b → MediumLeads a.medium calls b.medium
 on_medium [] a b leads = ap (λ (d : DiskValue). d.medium) leads
 on_medium (call ∷ calls) a b leads = (leads.0, on_medium calls (step call.request a) b leads.1)
 
@@ -59,33 +59,33 @@ run_on_medium (r ∷ requests) failed calls a b (inr (later, turn, others)) lead
     ∙ run_on_medium requests failed later (after r a) b others led.1
 
 pub run_of_all : (requests : List Request) (failed : Bool) (calls : List Call) (a b : DiskValue) → InTurn requests failed calls
-    → Leads a calls b
+    → CallsLead a calls b
     → run requests a.medium ≡ (failed, b.medium)
 run_of_all requests failed calls a b turn leads = run_on_medium requests failed calls a.medium b.medium turn (on_medium calls a b leads)
 
 pub run_of_counted : (requests : List Request) (failed : Bool) (calls : List Call) (a b : DiskValue)
-    → InTurn requests failed (counted calls) → Leads a calls b
+    → InTurn requests failed (counted calls) → CallsLead a calls b
     → run requests a.medium ≡ (failed, b.medium)
 run_of_counted requests failed calls a b turn leads =
     run_on_medium requests failed (counted calls) a.medium b.medium turn (counted_alone calls a.medium b.medium (on_medium calls a b leads))
 
 -- the count of faults rises by the one that failed
 pub faults_in_turn : (requests : List Request) (failed : Bool) (calls : List Call) (a b : DiskValue) → InTurn requests failed calls
-    → Leads a calls b
+    → CallsLead a calls b
     → b.faults ≡ (if failed then risen a.faults else a.faults)
 faults_in_turn [] failed calls a b turn leads =
-    let same : b ≡ a = subst (λ (cs : List Call). Leads a cs b) turn.1 leads in
+    let same : b ≡ a = subst (λ (cs : List Call). CallsLead a cs b) turn.1 leads in
     ap (λ (d : DiskValue). d.faults) same ∙ ap (λ (f : Bool). if f then risen a.faults else a.faults) (sym turn.0)
 faults_in_turn (r ∷ requests) failed calls a b (inl turn) leads =
-    let led : (true ≡ fails r a.medium) × (b ≡ step r a) = subst (λ (cs : List Call). Leads a cs b) turn.1 leads in
+    let led : (true ≡ fails r a.medium) × (b ≡ step r a) = subst (λ (cs : List Call). CallsLead a cs b) turn.1 leads in
     ap (λ (d : DiskValue). d.faults) led.1 ∙ ap (λ (f : Bool). if f then risen a.faults else a.faults) (sym led.0 ∙ sym turn.0)
 faults_in_turn (r ∷ requests) failed calls a b (inr (later, turn, others)) leads =
-    let led : (false ≡ fails r a.medium) × Leads (step r a) later b = subst (λ (cs : List Call). Leads a cs b) turn leads in
+    let led : (false ≡ fails r a.medium) × CallsLead (step r a) later b = subst (λ (cs : List Call). CallsLead a cs b) turn leads in
     let kept : (step r a).faults ≡ a.faults = ap (λ (f : Bool). if f then risen a.faults else a.faults) (sym led.0) in
     faults_in_turn requests failed later (step r a) b others led.1
     ∙ ap (λ (n : ℕ). if failed then risen n else n) kept
 
-pub starved_in_turn : (calls : List Call) (a b : DiskValue) → Leads a calls b → b.starved ≡ a.starved
+pub starved_in_turn : (calls : List Call) (a b : DiskValue) → CallsLead a calls b → b.starved ≡ a.starved
 starved_in_turn [] a b leads = ap (λ (d : DiskValue). d.starved) leads
 starved_in_turn (call ∷ calls) a b leads = starved_in_turn calls (step call.request a) b leads.1
 

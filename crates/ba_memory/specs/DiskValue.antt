@@ -106,8 +106,8 @@ fails (request.Cut len) m = goes_wrong (course m)
 fails request.Sync m = goes_wrong (course m)
 
 -- with one more counted call
-abbrev pub noted : Request → MediumValue → MediumValue → MediumValue
-noted request before m = record m { calls = before.calls ++ record { request = request; failed = goes_wrong (course before) } ∷ [] }
+abbrev pub with_call : Request → MediumValue → MediumValue → MediumValue
+with_call request before m = record m { calls = before.calls ++ record { request = request; failed = goes_wrong (course before) } ∷ [] }
 
 -- with one more change pending
 abbrev pub issued : Change → MediumValue → MediumValue
@@ -138,10 +138,10 @@ synced_by (Met trouble) m = troubled trouble m m
 abbrev pub after : Request → MediumValue → MediumValue
 after request.Len m = m
 after (request.ReadAt place room) m = m
-after (request.WriteAt place bytes) m = noted (request.WriteAt place bytes) m
+after (request.WriteAt place bytes) m = with_call (request.WriteAt place bytes) m
     (changed_by (course m) m (issued (change.Write place bytes) m))
-after (request.Cut len) m = noted (request.Cut len) m (changed_by (course m) m (issued (change.Cut len) m))
-after request.Sync m = noted request.Sync m (synced_by (course m) m)
+after (request.Cut len) m = with_call (request.Cut len) m (changed_by (course m) m (issued (change.Cut len) m))
+after request.Sync m = with_call request.Sync m (synced_by (course m) m)
 
 abbrev pub after_all : List Call → MediumValue → MediumValue
 after_all [] m = m
@@ -189,17 +189,17 @@ abbrev pub MayHaveBeenLeft : MediumValue → MediumValue → List ℕ → Type 0
 MayHaveBeenLeft a b left = (n : ℕ) × MayBeLeft (after_all (take n (drop (length a.calls) b.calls)) a) left
 
 -- these calls, each with its answer, lead from the first disk to the second
-abbrev pub Leads : DiskValue → List Call → DiskValue → Type 0
-Leads a [] b = b ≡ a
-Leads a (call ∷ calls) b = (call.failed ≡ fails call.request a.medium) × Leads (step call.request a) calls b
+abbrev pub CallsLead : DiskValue → List Call → DiskValue → Type 0
+CallsLead a [] b = b ≡ a
+CallsLead a (call ∷ calls) b = (call.failed ≡ fails call.request a.medium) × CallsLead (step call.request a) calls b
 
 -- the same, of a disk that tells its calls
 abbrev pub Drives : DiskValue → List Call → DiskValue → Type 0
-Drives a calls b = b.starved ≡ false → Leads a calls b
+Drives a calls b = b.starved ≡ false → CallsLead a calls b
 
 -- the counted calls, which a starved disk doesn't tell
-abbrev pub told : DiskValue → Option (List Call)
-told disk = if disk.starved then None else Some disk.medium.calls
+abbrev pub told_calls : DiskValue → Option (List Call)
+told_calls disk = if disk.starved then None else Some disk.medium.calls
 
 -- Arming and restarting
 

@@ -2,7 +2,7 @@
 ghost use Rattle.std.specs.Prelude.{◌≡◌, Bool, false, if◌then◌else◌, List, ◌++◌};
 ghost use Rattle.ba_ports.specs.Counts.{risen};
 ghost use Rattle.ba_ports.specs.Disk.{InTurn, counted};
-ghost use Rattle.ba_memory.specs.DiskValue.{MediumValue, DiskValue, IsUntroubled, MayBeLeft, all_imaged, fails, Leads, run, unless_failed};
+ghost use Rattle.ba_memory.specs.DiskValue.{MediumValue, DiskValue, IsUntroubled, MayBeLeft, all_imaged, fails, CallsLead, run, unless_failed};
 ghost use Rattle.ba_ports.specs.declared.images.Image.{Image as Left};
 ghost use Rattle.ba_ports.specs.declared.requests.Call.{Call};
 ghost use Rattle.ba_ports.specs.declared.requests.Request.{Request};
@@ -24,12 +24,12 @@ pub fn nothing_fails_by_itself()
 /// failed.
 pub fn requests_in_turn_are_run()
     ensures made { (requests : List Request) (failed : Bool) (calls : List Call) (a b : DiskValue) →
-        InTurn requests failed calls → Leads a calls b → run requests a.medium ≡ (failed, b.medium) }
+        InTurn requests failed calls → CallsLead a calls b → run requests a.medium ≡ (failed, b.medium) }
     ensures looks { (requests : List Request) (failed : Bool) (calls : List Call) (a b : DiskValue) →
-        InTurn requests failed (counted calls) → Leads a calls b → run requests a.medium ≡ (failed, b.medium) }
+        InTurn requests failed (counted calls) → CallsLead a calls b → run requests a.medium ≡ (failed, b.medium) }
     ensures faults { (requests : List Request) (failed : Bool) (calls : List Call) (a b : DiskValue) →
-        InTurn requests failed calls → Leads a calls b → b.faults ≡ (if failed then risen a.faults else a.faults) }
-    ensures starved { (calls : List Call) (a b : DiskValue) → Leads a calls b → b.starved ≡ a.starved }
+        InTurn requests failed calls → CallsLead a calls b → b.faults ≡ (if failed then risen a.faults else a.faults) }
+    ensures starved { (calls : List Call) (a b : DiskValue) → CallsLead a calls b → b.starved ≡ a.starved }
 {}
 
 /// A run of two lists of requests is a run of the first, and where none of it failed a run of the second.

@@ -1,7 +1,7 @@
 //! What a disk in memory holds: its contents, what is pending, and the failure or stop that is armed.
 ghost use Rattle.std.specs.Prelude.{◌≡◌, ◌+◌, ◌≤◌, [], ◌∷◌, ◌++◌, length, None, Some, true, false, is_some, IfOk, IfErr, OnOk, OnErr};
 ghost use Rattle.ba_ports.specs.Disk.{Armament};
-ghost use Rattle.ba_memory.specs.DiskValue.{bytes_of, course, course_by, noted, changed_by, issued, synced_by, chosen, imaged, all_imaged};
+ghost use Rattle.ba_memory.specs.DiskValue.{bytes_of, course, course_by, with_call, changed_by, issued, synced_by, chosen, imaged, all_imaged};
 ghost use Rattle.ba_memory.specs.inside.MediumFits.{left_of, shown_or};
 ghost use Rattle.ba_ports.specs.declared.requests.Request.TheVariants as request;
 
@@ -135,7 +135,7 @@ impl Medium {
     /// A counted call that issues a change, where nothing keeps it from that.
     #[tactic(auto, using(crate::proofs::DiskCalls::going))]
     pub fn change(&mut self, request: Request, change: Change) -> Result<(), Memory>
-        ensures ok { OnOk result (self.new ≡ noted request self.old (changed_by (course self.old) self.old (issued change self.old))) }
+        ensures ok { OnOk result (self.new ≡ with_call request self.old (changed_by (course self.old) self.old (issued change self.old))) }
         ensures err { OnErr result (self.new ≡ self.old) }
     {
         match self.course() {
@@ -149,7 +149,7 @@ impl Medium {
     /// A counted call that syncs, where nothing keeps it from that.
     #[tactic(auto, using(crate::proofs::DiskCalls::going))]
     pub fn sync(&mut self) -> Result<(), Memory>
-        ensures ok { OnOk result (self.new ≡ noted request.Sync self.old (synced_by (course self.old) self.old)) }
+        ensures ok { OnOk result (self.new ≡ with_call request.Sync self.old (synced_by (course self.old) self.old)) }
         ensures err { OnErr result (self.new ≡ self.old) }
     {
         match self.course() {

@@ -2,7 +2,7 @@
 ghost use Rattle.std.specs.Prelude.{◌≡◌, ◌≤◌, ◌<◌, ◌^◌, [], length, true, false, is_some, is_err, refl, if◌then◌else◌, OnOk, OnErr};
 ghost use Rattle.ba_ports.specs.Counts.{risen};
 ghost use Rattle.ba_ports.specs.Disk.{Reads, fail, stop, nothing};
-ghost use Rattle.ba_memory.specs.DiskValue.{bytes_of, goes_wrong, after, starve, Makes, MayBeLeft, IsLater, MayHaveBeenLeft, told, Drives, rearm, restarted, holding};
+ghost use Rattle.ba_memory.specs.DiskValue.{bytes_of, goes_wrong, after, starve, Makes, MayBeLeft, IsLater, MayHaveBeenLeft, told_calls, Drives, rearm, restarted, holding};
 ghost use Rattle.ba_memory.specs.inside.DiskLaws.{shown_may_stay, later_none, later_on, left_now, left_only_now, left_widened, drives_on, lists, keeps_rearmed};
 ghost use Rattle.ba_ports.specs.declared.requests.Request.TheVariants as request;
 
@@ -161,7 +161,7 @@ impl Disk for MemDisk {
 
     ghost left_between = { λ a b. MayHaveBeenLeft a.medium b.medium };
 
-    ghost calls = { told };
+    ghost calls = { told_calls };
 
     ghost driven = { Drives };
 
@@ -179,7 +179,7 @@ impl Disk for MemDisk {
 
     ghost widens = { λ a b c d left first second third some. left_widened a.medium b.medium c.medium d.medium left first second third some };
 
-    ghost driven_by_none = { λ disk told. refl };
+    ghost driven_by_none = { λ disk calls. refl };
 
     ghost driven_on = { λ a b c first second before behind. drives_on first second a b c before behind };
 

@@ -30,7 +30,7 @@ use Rattle.ba_pair.specs.declared.events.StepFault.{StepFault}
 use Rattle.ba_pair.specs.declared.lines.Line.{Line}
 use Rattle.ba_pair.specs.declared.lines.Line.TheVariants as line
 use Rattle.ba_pair.specs.declared.sides.TheConstants.{ALREADY_DECIDED, NOT_READY, WRONG_STATE}
-use Rattle.ba_pair.specs.PairState.{PairState, PairFits, link_of, state_of, message_of, is_for_part, message_at}
+use Rattle.ba_pair.specs.PairState.{PairState, PairFits, link_of, state_of_pair, link_message, is_for_part, message_at}
 use Rattle.ba_pair.specs.PairPlay.{Effect, MovesBy, arrival_of, move_of, happens, refused_effect, acted_effect, end_ticked_effect}
 use Rattle.ba_pair.specs.PairPlay.{part_ticked_effect, chosen_effect, completed_effect, end_received_effect, part_received_effect}
 use Rattle.ba_pair.specs.PairPlay.{delivered_effect}
@@ -50,12 +50,12 @@ some_is : {A : Type 0} {x y : A} → Some x ≡ Some y → x ≡ y
 some_is h = cc
 
 -- nothing is sent
-unsent : (w : PairState) → map message_of w.bag ≡ map message_of w.bag ++ []
-unsent w = sym (append-nil (map message_of w.bag))
+unsent : (w : PairState) → map link_message w.bag ≡ map link_message w.bag ++ []
+unsent w = sym (append-nil (map link_message w.bag))
 
 -- the link has no such move, so the event is refused
 refused_steps : (w : PairState) (e : PairEvent) (why : ℕ) (m : link.Move) → PairFits w → move_of w e ≡ Some m
-    → link.moved_link (state_of w) m ≡ None
+    → link.moved_link (state_of_pair w) m ≡ None
     → Steps w e (refused_effect w why)
 refused_steps w e why m fits is none = record {
   moves = record { move = m; is = is; none = none; unchanged = refl };
@@ -66,7 +66,8 @@ refused_steps w e why m fits is none = record {
 
 acted_steps : (w : PairState) (a : Act) → PairFits w → (answer : Option PState) → acted_state w.protocol w.part a ≡ answer
     → Steps w (event.Act a) (acted_effect w answer)
-acted_steps w a fits None h = refused_steps w (event.Act a) WRONG_STATE (link.acts a) fits refl (ap (λ o. link.acted_link (state_of w) o) h)
+acted_steps w a fits None h = refused_steps w (event.Act a) WRONG_STATE (link.acts a) fits refl
+    (ap (λ o. link.acted_link (state_of_pair w) o) h)
 acted_steps w a fits (Some next) h = record {
   moves = record {
     step = record {
@@ -74,7 +75,7 @@ acted_steps w a fits (Some next) h = record {
       joined = true;
       message = None;
       heard = tt;
-      moves = ap (λ o. link.acted_link (state_of w) o) h;
+      moves = ap (λ o. link.acted_link (state_of_pair w) o) h;
       sent = unsent w;
     };
     move = refl;
@@ -86,7 +87,7 @@ acted_steps w a fits (Some next) h = record {
 }
 
 -- what an end says is a notice for the participant, and a column of its table
-end_says : (s : CState) → map message_of (option_to_list (end_tick s).1) ≡ option_to_list (option_map to_part (end_tick s).1)
+end_says : (s : CState) → map link_message (option_to_list (end_tick s).1) ≡ option_to_list (option_map to_part (end_tick s).1)
 end_says end.Active = refl
 end_says (end.Ended Canceled) = refl
 end_says s = refl
@@ -119,7 +120,7 @@ end_ticked_steps w fits = record {
       message = option_map to_part (end_tick w.end).1;
       heard = tt;
       moves = refl;
-      sent = map-joined message_of w.bag (end_tick w.end).1 ∙ ap (λ said. map message_of w.bag ++ said) (end_says w.end);
+      sent = map-joined link_message w.bag (end_tick w.end).1 ∙ ap (λ said. map link_message w.bag ++ said) (end_says w.end);
     };
     move = refl;
     joined = refl;
@@ -130,7 +131,7 @@ end_ticked_steps w fits = record {
 }
 
 -- what an enrolled participant says is a notice for the end, and a column of its table
-part_speaks : (s : PState) → s ≢ part.Registering → option_to_list (link.part_message s) ≡ map message_of (option_to_list (part_says s))
+part_speaks : (s : PState) → s ≢ part.Registering → option_to_list (link.part_message s) ≡ map link_message (option_to_list (part_says s))
 part_speaks part.Registering here = absurd (here refl)
 part_speaks (part.Ended Canceled) here = refl
 part_speaks s here = refl
@@ -158,8 +159,8 @@ part_ticked_steps w fits = record {
       heard = tt;
       moves = refl;
       sent =
-          map-joined message_of w.bag (part_says w.part)
-          ∙ ap (λ said. map message_of w.bag ++ said) (sym (part_speaks w.part fits.enrolled));
+          map-joined link_message w.bag (part_says w.part)
+          ∙ ap (λ said. map link_message w.bag ++ said) (sym (part_speaks w.part fits.enrolled));
     };
     move = refl;
     joined = refl;
@@ -173,11 +174,11 @@ chosen_steps : (w : PairState) (v : Verdict) → PairFits w → (before : Option
     → chosen_state w.protocol w.end v ≡ next → Steps w (event.Choose v) (chosen_effect w v before next)
 chosen_steps w v fits (Some before) g next h =
     refused_steps w (event.Choose v) ALREADY_DECIDED (link.chooses v) fits refl
-    (ap (λ verdict. link.chosen_link (state_of w) v verdict (chosen_state w.protocol w.end v)) g)
+    (ap (λ verdict. link.chosen_link (state_of_pair w) v verdict (chosen_state w.protocol w.end v)) g)
 chosen_steps w v fits None g None h =
     refused_steps w (event.Choose v) NOT_READY (link.chooses v) fits refl
-    (ap (λ verdict. link.chosen_link (state_of w) v verdict (chosen_state w.protocol w.end v)) g
-    ∙ ap (λ o. link.chosen_link (state_of w) v None o) h)
+    (ap (λ verdict. link.chosen_link (state_of_pair w) v verdict (chosen_state w.protocol w.end v)) g
+    ∙ ap (λ o. link.chosen_link (state_of_pair w) v None o) h)
 chosen_steps w v fits None g (Some next) h = record {
   moves = record {
     step = record {
@@ -186,8 +187,8 @@ chosen_steps w v fits None g (Some next) h = record {
       message = None;
       heard = tt;
       moves =
-          ap (λ verdict. link.chosen_link (state_of w) v verdict (chosen_state w.protocol w.end v)) g
-          ∙ ap (λ o. link.chosen_link (state_of w) v None o) h;
+          ap (λ verdict. link.chosen_link (state_of_pair w) v verdict (chosen_state w.protocol w.end v)) g
+          ∙ ap (λ o. link.chosen_link (state_of_pair w) v None o) h;
       sent = unsent w;
     };
     move = refl;
@@ -202,11 +203,11 @@ completed_steps : (w : PairState) → PairFits w → (before : Option Verdict) �
     → completed_state w.protocol w.end ≡ next → Steps w event.Complete (completed_effect w before next)
 completed_steps w fits (Some before) g next h =
     refused_steps w event.Complete ALREADY_DECIDED link.completes fits refl
-    (ap (λ verdict. link.completed_link (state_of w) verdict (completed_state w.protocol w.end)) g)
+    (ap (λ verdict. link.completed_link (state_of_pair w) verdict (completed_state w.protocol w.end)) g)
 completed_steps w fits None g None h =
     refused_steps w event.Complete WRONG_STATE link.completes fits refl
-    (ap (λ verdict. link.completed_link (state_of w) verdict (completed_state w.protocol w.end)) g
-    ∙ ap (λ o. link.completed_link (state_of w) None o) h)
+    (ap (λ verdict. link.completed_link (state_of_pair w) verdict (completed_state w.protocol w.end)) g
+    ∙ ap (λ o. link.completed_link (state_of_pair w) None o) h)
 completed_steps w fits None g (Some next) h = record {
   moves = record {
     step = record {
@@ -215,9 +216,9 @@ completed_steps w fits None g (Some next) h = record {
       message = None;
       heard = tt;
       moves =
-          ap (λ verdict. link.completed_link (state_of w) verdict (completed_state w.protocol w.end)) g
-          ∙ ap (λ o. link.completed_link (state_of w) None o) h
-          ∙ ap (λ verdict. Some (link.with_end (state_of w) next verdict, None)) (sym g);
+          ap (λ verdict. link.completed_link (state_of_pair w) verdict (completed_state w.protocol w.end)) g
+          ∙ ap (λ o. link.completed_link (state_of_pair w) None o) h
+          ∙ ap (λ verdict. Some (link.with_end (state_of_pair w) next verdict, None)) (sym g);
       sent = unsent w;
     };
     move = refl;
@@ -240,7 +241,7 @@ part_received_steps w e n is fits column sent (prow.Row next prompt) h = record 
       joined = true;
       message = None;
       heard = sent;
-      moves = ap (λ row. link.part_moved_link (state_of w) row) h;
+      moves = ap (λ row. link.part_moved_link (state_of_pair w) row) h;
       sent = unsent w;
     };
     move = is;
@@ -265,7 +266,7 @@ end_received_steps w e n is fits column sent (crow.Row next prompt) h = record {
       joined = true;
       message = None;
       heard = sent;
-      moves = ap (λ row. link.end_moved_link (state_of w) w.verdict row) h;
+      moves = ap (λ row. link.end_moved_link (state_of_pair w) w.verdict row) h;
       sent = unsent w;
     };
     move = is;
@@ -277,16 +278,16 @@ end_received_steps w e n is fits column sent (crow.Row next prompt) h = record {
 }
 
 received_steps : (w : PairState) (e : PairEvent) (n : Notice) → move_of w e ≡ Some (arrival_of n) → PairFits w → IsTrue (is_column n)
-    → Contains (link_of w).sent (message_of n) → (for_part : Bool) → is_for_part n ≡ for_part
+    → Contains (link_of w).sent (link_message n) → (for_part : Bool) → is_for_part n ≡ for_part
     → Steps w e
     (if for_part then part_received_effect w (part_row w.protocol w.part n) else end_received_effect w (end_row w.protocol w.end n))
 received_steps w e n is fits column sent true g =
-    let same : message_of n ≡ to_part n = ap (λ b. if b then to_part n else to_end n) g in
+    let same : link_message n ≡ to_part n = ap (λ b. if b then to_part n else to_end n) g in
     let move : move_of w e ≡ Some (link.part_receives n) =
     is ∙ ap (λ b. Some (if b then link.part_receives n else link.end_receives n)) g in
     part_received_steps w e n move fits column (subst (Contains (link_of w).sent) same sent) (part_row w.protocol w.part n) refl
 received_steps w e n is fits column sent false g =
-    let same : message_of n ≡ to_end n = ap (λ b. if b then to_part n else to_end n) g in
+    let same : link_message n ≡ to_end n = ap (λ b. if b then to_part n else to_end n) g in
     let move : move_of w e ≡ Some (link.end_receives n) = is ∙ ap (λ b. Some (if b then link.part_receives n else link.end_receives n)) g in
     end_received_steps w e n move fits column (subst (Contains (link_of w).sent) same sent) (end_row w.protocol w.end n) refl
 
@@ -303,7 +304,7 @@ delivered_steps w number fits (Some n) g o h =
     let there = found_at w.bag (number - 1) n (nat_eq number 0) g in
     subst (Steps w (event.Deliver number)) (some_is h) (received_steps w (event.Deliver number) n (ap (option_map arrival_of) g) fits
     (all_at (λ n. IsTrue (is_column n)) w.bag (number - 1) n fits.columns there)
-    (sent_at message_of w.bag (number - 1) n there) (is_for_part n) refl)
+    (sent_at link_message w.bag (number - 1) n there) (is_for_part n) refl)
 
 -- what an event leads to, if it leads to something
 pub step_steps : (w : PairState) (e : PairEvent) (o : Effect) → PairFits w → happens w e ≡ Some o → Steps w e o

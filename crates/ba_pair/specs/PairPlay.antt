@@ -23,7 +23,7 @@ use Rattle.ba_pair.specs.declared.events.PairEvent.TheVariants.{Act, Tick, Choos
 use Rattle.ba_pair.specs.declared.lines.Line.{Line}
 use Rattle.ba_pair.specs.declared.lines.Line.TheVariants as line
 use Rattle.ba_pair.specs.declared.sides.TheConstants.{ALREADY_DECIDED, NOT_READY, WRONG_STATE}
-use Rattle.ba_pair.specs.PairState.{PairState, PairFits, is_for_part, message_at, state_of, link_of}
+use Rattle.ba_pair.specs.PairState.{PairState, PairFits, is_for_part, message_at, state_of_pair, link_of}
 use Rattle.ba_pair.specs.Recorded.{Played, OutcomesRecorded}
 
 -- the effect of an event: the pair after it, and the line that it shows
@@ -107,7 +107,7 @@ pub record IsStepBy (w : PairState) (e : PairEvent) (next : PairState) : Type 0 
 pub record IsRefusedBy (w : PairState) (e : PairEvent) (next : PairState) : Type 0 where
   pub move : Move
   pub is : move_of w e ≡ Some move
-  pub none : moved_link (state_of w) move ≡ None
+  pub none : moved_link (state_of_pair w) move ≡ None
   pub unchanged : next ≡ w
 
 -- what an event that shows this line makes of a pair

@@ -40,15 +40,21 @@ is_for_part notice.NotCompleted = true
 is_for_part n = false
 
 -- a notice as a message of a link
-abbrev pub message_of : Notice → Message
-message_of n = if is_for_part n then to_part n else to_end n
+abbrev pub link_message : Notice → Message
+link_message n = if is_for_part n then to_part n else to_end n
 
 -- the pair as a link
-abbrev pub state_of : PairState → LinkState
-state_of w = record { protocol = w.protocol; end = Some (record { state = w.end; verdict = w.verdict }); part = w.part; sealed = false }
+abbrev pub state_of_pair : PairState → LinkState
+state_of_pair w = record {
+  protocol = w.protocol;
+  end = Some (record { state = w.end; verdict = w.verdict });
+  part =
+      w.part;
+  sealed = false;
+}
 
 abbrev pub link_of : PairState → Link
-link_of w = record { state = state_of w; sent = map message_of w.bag }
+link_of w = record { state = state_of_pair w; sent = map link_message w.bag }
 
 -- the pair's link is as its moves make it, its participant is enrolled, and its bag holds no GetStatus and
 -- no Status

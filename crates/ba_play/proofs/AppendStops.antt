@@ -13,7 +13,7 @@ use Rattle.ba_journal.specs.Frames.{StandsFor}
 use Rattle.ba_journal.specs.Journals.{before_last, behind_gate}
 use Rattle.ba_journal.specs.inside.Appending.{IsFrameOf}
 use Rattle.ba_memory.specs.DiskValue.{MediumValue, all_imaged, bytes_of, changed_by, course, course_by, course_of, fails, goes_wrong}
-use Rattle.ba_memory.specs.DiskValue.{imaged, issued, noted, put, rearmed_medium, run, synced_by, unless_failed}
+use Rattle.ba_memory.specs.DiskValue.{imaged, issued, with_call, put, rearmed_medium, run, synced_by, unless_failed}
 use Rattle.ba_memory.specs.declared.changes.Change.{Change}
 use Rattle.ba_memory.specs.declared.changes.Change.TheVariants as change
 use Rattle.ba_memory.specs.declared.media.Armed.{Armed}
@@ -65,13 +65,13 @@ comes_later more t m comes =
     (ne_eqb (length m.calls + suc (suc more)) (length m.calls + 1) (λ same. absurd (omega (arith, same))))
 
 comes_next : (r : Request) (m next : MediumValue) (more : ℕ) (t : Trouble) → ComesAfter (suc more) t m → next.stopped ≡ None
-    → next.armed ≡ m.armed → ComesAfter more t (noted r m next)
+    → next.armed ≡ m.armed → ComesAfter more t (with_call r m next)
 comes_next r m next more t comes runs same = record {
   runs = runs;
   armed = same ∙ comes.armed ∙ ap (λ (n : ℕ). Some (record { number = n; trouble = t })) counts;
 }
   where
-    counts : length m.calls + suc (suc more) ≡ length (noted r m next).calls + suc more
+    counts : length m.calls + suc (suc more) ≡ length (with_call r m next).calls + suc more
     counts = omega (arith, length-append m.calls (record { request = r; failed = goes_wrong (course m) } ∷ []))
 
 -- ---- a change, and then a sync
@@ -105,7 +105,7 @@ record GoesOnBefore (more : ℕ) (t : Trouble) (file : List ℕ) (rest : List Re
 module _ (r : Request) (x : Change) (asks : Asks r x) (m : MediumValue) (file : List ℕ) (quiet : IsQuiet m file) (t : Trouble)
     (rest : List Request) where
   abbrev first_done : Course → MediumValue
-  first_done c = noted r m (changed_by c m (issued x m))
+  first_done c = with_call r m (changed_by c m (issued x m))
 
   abbrev first_made : Course → Bool × MediumValue
   first_made c = unless_failed (goes_wrong c) (first_done c) (run (Sync ∷ rest) (first_done c))
@@ -114,7 +114,7 @@ module _ (r : Request) (x : Change) (asks : Asks r x) (m : MediumValue) (file : 
   waiting = first_done GoesOn
 
   abbrev second_done : Course → MediumValue
-  second_done c = noted Sync waiting (synced_by c waiting)
+  second_done c = with_call Sync waiting (synced_by c waiting)
 
   abbrev second_made : Course → Bool × MediumValue
   second_made c = unless_failed (goes_wrong c) (second_done c) (run rest (second_done c))

@@ -10,7 +10,7 @@ use Rattle.ba_journal.specs.Loads.{EndsFailed, settling}
 use Rattle.ba_journal.specs.Readings.{ReadsAs, reading_of}
 use Rattle.ba_journal.specs.declared.readings.Reading.{Reading}
 use Rattle.ba_memory.proofs.Turns.{run_of_all, run_of_counted}
-use Rattle.ba_memory.specs.DiskValue.{DiskValue, Drives, Leads, MediumValue, after, bytes_of, course, course_of, fails, goes_wrong, run}
+use Rattle.ba_memory.specs.DiskValue.{DiskValue, Drives, CallsLead, MediumValue, after, bytes_of, course, course_of, fails, goes_wrong, run}
 use Rattle.ba_memory.specs.DiskValue.{step, synced_by, unless_failed}
 use Rattle.ba_memory.specs.declared.media.Armed.{Armed}
 use Rattle.ba_memory.specs.declared.media.Course.{Course}
@@ -59,8 +59,8 @@ load_is_played d b found failed calls reads drives fed turn =
     ∙ run_of_counted (request.Sync ∷ settling found) failed calls d b turn (drives fed)
 
 -- the last of some calls
-split_last : (before : List Call) (x : Call) (a b : DiskValue) → Leads a (before ++ x ∷ []) b
-    → (d : DiskValue) × Leads a before d × (x.failed ≡ fails x.request d.medium)
+split_last : (before : List Call) (x : Call) (a b : DiskValue) → CallsLead a (before ++ x ∷ []) b
+    → (d : DiskValue) × CallsLead a before d × (x.failed ≡ fails x.request d.medium)
 split_last [] x a b leads = (a, refl, leads.0)
 split_last (call ∷ before) x a b leads =
     let rest = split_last before x (step call.request a) b leads.1 in (rest.0, (leads.0, rest.1), rest.2)
@@ -93,7 +93,7 @@ abbrev well_synced : Call
 well_synced = record { request = request.Sync; failed = false }
 
 -- of a disk whose one counted call was a sync that went well the machine runs
-synced_disk : (calls : List Call) (a b : DiskValue) → Leads a calls b → counted calls ≡ well_synced ∷ [] → b.medium.stopped ≡ None
+synced_disk : (calls : List Call) (a b : DiskValue) → CallsLead a calls b → counted calls ≡ well_synced ∷ [] → b.medium.stopped ≡ None
 synced_disk calls a b leads one =
     let turn : InTurn (request.Sync ∷ []) false (counted calls) = inr ([], one, (refl, refl)) in
     let ran = by_run a.medium b.medium (fails request.Sync a.medium)
@@ -102,7 +102,7 @@ synced_disk calls a b leads one =
 
 -- so a look at it doesn't fail
 looked : (r : Request) → ((m : MediumValue) → fails r m ≡ is_some m.stopped) → (before : List Call) (a b : DiskValue)
-    → Leads a (before ++ failed_call r ∷ []) b → counted before ≡ well_synced ∷ [] → ⊥
+    → CallsLead a (before ++ failed_call r ∷ []) b → counted before ≡ well_synced ∷ [] → ⊥
 looked r fails_so before a b leads one =
     let last = split_last before (failed_call r) a b leads in
     let runs : last.0.medium.stopped ≡ None = synced_disk before a last.0 last.1 one in
@@ -120,7 +120,7 @@ counted_last r before is =
     let same : failed_call r ≡ well_synced = last_alone (counted before) (failed_call r) well_synced is in
     true≢false (ap (λ (c : Call). c.failed) same)
 
-none_fails_late : (r : Request) (before : List Call) (a b : DiskValue) → Leads a (before ++ failed_call r ∷ []) b
+none_fails_late : (r : Request) (before : List Call) (a b : DiskValue) → CallsLead a (before ++ failed_call r ∷ []) b
     → counted (before ++ failed_call r ∷ []) ≡ well_synced ∷ [] → ⊥
 none_fails_late request.Len before a b leads is =
     looked request.Len (λ m. refl) before a b leads
@@ -144,4 +144,4 @@ early_is_played d b found true calls drives fed ends turn =
 early_is_played d b found false calls drives fed ends (inl stopped) = absurd (true≢false (sym stopped.0))
 early_is_played d b found false calls drives fed (before, r, all) (inr (later, is, none)) =
     let one : counted calls ≡ well_synced ∷ [] = is ∙ ap (λ (l : List Call). well_synced ∷ l) none.1 in
-    absurd (none_fails_late r before d b (subst (λ (cs : List Call). Leads d cs b) all (drives fed)) (ap counted (sym all) ∙ one))
+    absurd (none_fails_late r before d b (subst (λ (cs : List Call). CallsLead d cs b) all (drives fed)) (ap counted (sym all) ∙ one))

@@ -18,7 +18,7 @@ use Rattle.ba_journal.specs.declared.readings.Reading.TheVariants.{Fresh, Found}
 use Rattle.ba_journal.specs.declared.readings.Tail.{Tail}
 use Rattle.ba_journal.specs.declared.readings.Tail.TheVariants as tail
 use Rattle.ba_memory.specs.DiskValue.{LeftOf, LeftOfOne, MayBeLeft, MediumValue, all_imaged, bytes_of, changed_by, course, fails}
-use Rattle.ba_memory.specs.DiskValue.{goes_wrong, imaged, issued, noted, put, run, settled, synced_by, unless_failed}
+use Rattle.ba_memory.specs.DiskValue.{goes_wrong, imaged, issued, with_call, put, run, settled, synced_by, unless_failed}
 use Rattle.ba_memory.specs.DiskValue as disks
 use Rattle.ba_memory.specs.declared.changes.Change.{Change}
 use Rattle.ba_memory.specs.declared.changes.Change.TheVariants as change
@@ -74,7 +74,7 @@ one_more changes x none = ap (λ (l : List Change). l ++ x ∷ []) none
 
 -- the change is asked for by this request
 pub record Asks (r : Request) (x : Change) : Type 0 where
-  pub makes : (m : MediumValue) → disks.after r m ≡ noted r m (changed_by (course m) m (issued x m))
+  pub makes : (m : MediumValue) → disks.after r m ≡ with_call r m (changed_by (course m) m (issued x m))
   pub meets : (m : MediumValue) → fails r m ≡ goes_wrong (course m)
 
 pub writes : (place : ℕ) (bytes : List ℕ) → Asks (WriteAt place bytes) (change.Write place bytes)
@@ -89,7 +89,7 @@ module _ (r : Request) (x : Change) (asks : Asks r x) (m : MediumValue) (file : 
   Through made = Breaks P made ⊎ GoesOnWith (imaged image.New x file) rest made
 
   abbrev first_done : Course → MediumValue
-  first_done c = noted r m (changed_by c m (issued x m))
+  first_done c = with_call r m (changed_by c m (issued x m))
 
   abbrev first_made : Course → Bool × MediumValue
   first_made c = unless_failed (goes_wrong c) (first_done c) (run (Sync ∷ rest) (first_done c))
@@ -106,7 +106,7 @@ module _ (r : Request) (x : Change) (asks : Asks r x) (m : MediumValue) (file : 
       ∙ ap (λ (f : List ℕ). imaged image.New x f) quiet.holds
 
   abbrev second_done : Course → MediumValue
-  second_done c = noted Sync waiting (synced_by c waiting)
+  second_done c = with_call Sync waiting (synced_by c waiting)
 
   abbrev second_made : Course → Bool × MediumValue
   second_made c = unless_failed (goes_wrong c) (second_done c) (run rest (second_done c))
@@ -345,7 +345,7 @@ settle_by now records (Found read place end) m quiet reads is some =
 module _ (disk : MediumValue) (records : List Record) (runs : disk.stopped ≡ None) (some : records ≢ [])
     (stands : StandsFor (bytes_of disk) records) where
   abbrev synced : Course → MediumValue
-  synced c = noted Sync disk (synced_by c disk)
+  synced c = with_call Sync disk (synced_by c disk)
 
   abbrev load_made : List Request → Course → Bool × MediumValue
   load_made rest c = unless_failed (goes_wrong c) (synced c) (run rest (synced c))

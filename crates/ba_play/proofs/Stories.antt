@@ -3,12 +3,13 @@ use Rattle.std.proofs.Common.{◌≡◌, inl, inr, ℕ, suc, ◌+◌, ◌*◌, �
 use Rattle.std.proofs.Common.{Err, refl, sym, ap, subst, arith}
 use Rattle.std.specs.List.{AllByRecursion}
 use Rattle.std.proofs.lemmas.Bool.Decides.{eqb_tells}
+use Rattle.ba_events.specs.Events.{NumberedEvent}
 use Rattle.ba_play.specs.Disks.{DiskFits, HaveSpare}
 use Rattle.ba_play.specs.Plays.{EventEffect, WorldEffect, WorldOnDisks, node_base, play_step, starting_play, world_at_start}
 use Rattle.ba_play.specs.SafeStories.{ClosesWhatCompleted, IsInPlace, IsSafeStory, OutcomesAreRecorded, RunClosesWhatCompleted}
 use Rattle.ba_play.specs.SafeStories.{RunIsRecorded}
 use Rattle.ba_play.specs.Posting.{CanPost}
-use Rattle.ba_play.specs.Shows.{Halt, NumberedEvent, Story, story, story_by, story_from}
+use Rattle.ba_play.specs.Shows.{Halt, Story, story, story_by, story_from}
 use Rattle.ba_play.proofs.Bases.{base_in_range}
 use Rattle.ba_play.proofs.EventDisks.{AllFit}
 use Rattle.ba_play.proofs.EventSteps.{GoesWell, steps_in_run}

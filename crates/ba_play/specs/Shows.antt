@@ -2,8 +2,8 @@
 use Rattle.std.specs.Prelude.{ℕ, zero, suc, ◌+◌, List, [], ◌∷◌, ◌++◌, length, map, Option, None, Some, Ok, Err}
 use Rattle.std.specs.Option.{option_map, option_to_list}
 use Rattle.ba_core.specs.declared.identifiers.Id.{Id}
+use Rattle.ba_events.specs.Events.{NumberedEvent}
 use Rattle.ba_events.specs.Outcomes.{outcome_line, summary_line}
-use Rattle.ba_events.specs.declared.events.Event.{Event}
 use Rattle.ba_events.specs.declared.outcomes.Outcome.{Outcome}
 use Rattle.ba_events.specs.declared.summaries.Summary.{Summary}
 use Rattle.ba_events.specs.declared.summaries.Summary.TheVariants as summary
@@ -15,10 +15,6 @@ use Rattle.ba_steps.specs.Shown.{seen_at}
 use Rattle.ba_steps.specs.declared.answers.Seen.{Seen}
 use Rattle.ba_steps.specs.declared.answers.Seen.TheVariants as seen
 use Rattle.ba_tree.specs.Trees.{joined}
-
--- an event and the number of its line in the script
-abbrev pub NumberedEvent : Type 0
-NumberedEvent = ℕ × Event
 
 -- the first event that can't be played: the number of its line, and what it names that isn't there
 pub record Halt : Type 0 where

@@ -1,6 +1,7 @@
 //! Laws of plays. Each function does nothing: its contract is the law.
 ghost use Rattle.std.specs.Prelude.{◌≡◌, ◌≢◌, ◌↔◌, ℕ, ◌+◌, ◌*◌, ◌<◌, ◌≤◌, ◌^◌, Bool, true, false, List, [], ◌∷◌, ◌++◌, length, None, Some, Ok};
 ghost use Rattle.std.specs.List.{AllByRecursion};
+ghost use Rattle.ba_events.specs.Events.{NumberedEvent};
 ghost use Rattle.ba_events.specs.declared.events.Event.{Event};
 ghost use Rattle.ba_events.specs.declared.outcomes.Outcome.TheVariants as outcome;
 ghost use Rattle.ba_journal.specs.Frames.{StandsFor};
@@ -17,7 +18,7 @@ ghost use Rattle.ba_play.specs.Plays.{WorldEffect, WorldOnDisks, disk_at_start, 
 ghost use Rattle.ba_play.specs.Posting.{CanPost, occasion_event};
 ghost use Rattle.ba_play.specs.Reopenings.{IsAboutToAppend, call_armed, failure_keeps, records_if, records_reopened, stop_keeps};
 ghost use Rattle.ba_play.specs.SafeStories.{IsSafeStory, OutcomesAreRecorded};
-ghost use Rattle.ba_play.specs.Shows.{NumberedEvent, story};
+ghost use Rattle.ba_play.specs.Shows.{story};
 ghost use Rattle.ba_ports.specs.Disk.{Armament, InTurn, counted, fail, stop};
 ghost use Rattle.ba_ports.specs.declared.images.Image.{Image};
 ghost use Rattle.ba_ports.specs.declared.requests.Call.{Call};

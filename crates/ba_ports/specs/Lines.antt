@@ -12,6 +12,6 @@ lines_of [] = []
 lines_of (byte ∷ bytes) = if nat_eq byte 10 then [] ∷ lines_of bytes else onto_first byte (lines_of bytes)
 
 -- how many bytes these lines take with their line feeds
-abbrev pub bytes_of : List (List ℕ) → ℕ
-bytes_of [] = 0
-bytes_of (line ∷ lines) = length line + 1 + bytes_of lines
+abbrev pub byte_count : List (List ℕ) → ℕ
+byte_count [] = 0
+byte_count (line ∷ lines) = length line + 1 + byte_count lines

@@ -7,13 +7,13 @@ use Rattle.ba_core.specs.declared.notices.Notice.TheVariants as notice
 use Rattle.ba_core.specs.declared.states.StateName.TheVariants as state
 use Rattle.ba_message.specs.declared.messages.Message.{Message}
 use Rattle.ba_message.specs.declared.messages.Message.TheVariants as message
-use Rattle.ba_wire.specs.Envelopes.{action_for, fault_action, is_known_code, is_known_notice}
+use Rattle.ba_wire.specs.Envelopes.{action_for, fault_action, is_known_code, has_known_state}
 use Rattle.ba_wire.specs.Elements.{family_of}
 use Rattle.ba_wire.specs.declared.elements.Family.{Family}
 use Rattle.ba_wire.specs.declared.elements.Family.TheVariants as family
 use Rattle.ba_post.proofs.BriefTexts.{is_brief}
 
-pub known_notice : (n : Notice) → n ≢ notice.Status state.Other → is_known_notice n ≡ true
+pub known_notice : (n : Notice) → n ≢ notice.Status state.Other → has_known_state n ≡ true
 known_notice (notice.Status state.Other) h = absurd (h refl)
 known_notice n h = refl
 

@@ -6,9 +6,9 @@ use Rattle.std.specs.List.{sum_by}
 use Rattle.ba_tree.specs.declared.trees.Tree.{Tree}
 use Rattle.ba_tree.specs.Lengths.{part_length, tree_length}
 use Rattle.ba_tree.proofs.TreeLaws.{length_in}
-use Rattle.ba_xml_writer.specs.Namespaces.{Declaration, declaration, declared, further, is_further, numbered, scope}
+use Rattle.ba_xml_writer.specs.Namespaces.{Declaration, declaration, declared, further, is_further, numbered, text_scope}
 use Rattle.ba_xml_writer.specs.Namespaces.{soap_space, wsa_space, wscoor_space, wsba_space}
-use Rattle.ba_xml_writer.specs.OneText.{declarations, is_empty, items, one_text, tree_rest}
+use Rattle.ba_xml_writer.specs.OneText.{declaration_texts, is_empty, items, one_text, tree_rest}
 use Rattle.ba_xml_writer.specs.Writable.{HasRoom, IsShort}
 use Rattle.ba_xml_writer.proofs.Numbers.{length-numbered}
 use Rattle.ba_post.proofs.SpaceLengths.{of_further, total}
@@ -29,7 +29,7 @@ numbered_short n (f ∷ fs) h =
 declared_short : (fs : List (List ℕ)) → length fs ≤ 28 → AreShort (declared fs)
 declared_short fs h = (omega arith, (omega arith, (omega arith, (omega arith, numbered_short 1 fs (omega arith)))))
 
-scope_short : (fs : List (List ℕ)) → length fs ≤ 28 → AreShort (scope fs)
+scope_short : (fs : List (List ℕ)) → length fs ≤ 28 → AreShort (text_scope fs)
 scope_short fs h = (omega arith, declared_short fs h)
 
 -- ---- declarations
@@ -63,12 +63,12 @@ declared_weight fs =
 
 module _ (t : Tree) (few : length (further t) ≤ 28) where
   abbrev all : List Declaration
-  all = scope (further t)
+  all = text_scope (further t)
 
   pub text_length_is : length (one_text t) ≤ 12 * tree_length t + 1800
   text_length_is =
       let short : AreShort all = scope_short (further t) few in
-      let tag = qualified_length all short t.name (declarations (declared (further t)) (tree_rest all t [])) in
+      let tag = qualified_length all short t.name (declaration_texts (declared (further t)) (tree_rest all t [])) in
       let own = declarations_length (declared (further t)) (declared_short (further t) few) (tree_rest all t []) in
       let weights = declared_weight (further t) in
       let spaces = of_further is_further t in

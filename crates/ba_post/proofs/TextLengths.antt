@@ -12,7 +12,7 @@ use Rattle.ba_tree.specs.declared.trees.Content.TheBlock.{items-the_row-Content,
 use Rattle.ba_tree.specs.Lengths.{attribute_length, name_length, part_length}
 use Rattle.ba_tree.proofs.TreeLaws.{length_in, length_text, length_child}
 use Rattle.ba_xml_writer.specs.Namespaces.{Declaration}
-use Rattle.ba_xml_writer.specs.OneText.{Escape, attributes, declarations, element_rest, ending, escaped, is_end, item, items}
+use Rattle.ba_xml_writer.specs.OneText.{Escape, attributes, declaration_texts, element_rest, ending, escaped, is_end, item, items}
 use Rattle.ba_xml_writer.specs.OneText.{prefixed, qualified, row_items, spelled, text_escapes, value_escapes, valued}
 use Rattle.ba_xml.proofs.FineTrees.{shown, child_shown}
 use mathlib.Core.Former.{Count, list_count, this}
@@ -155,12 +155,12 @@ module _ (ds : List Declaration) (short : AreShort ds) where
 -- ---- declarations
 
 pub declarations_length : (own : List Declaration) → AreShort own → (rest : List ℕ)
-    → length (declarations own rest) ≤ sum_by (λ d. 16 + 6 * length d.space) own + length rest
+    → length (declaration_texts own rest) ≤ sum_by (λ d. 16 + 6 * length d.space) own + length rest
 declarations_length [] h rest = omega arith
 declarations_length (d ∷ own) h rest =
     let more = declarations_length own h.1 rest in
-    let value = valued_length d.space (declarations own rest) in
-    let both = length-append d.prefix (valued d.space (declarations own rest)) in
+    let value = valued_length d.space (declaration_texts own rest) in
+    let both = length-append d.prefix (valued d.space (declaration_texts own rest)) in
     let split = sum_by-cons (λ e. 16 + 6 * length e.space) d own in
     let brief = h.0 in
     omega arith

@@ -5,6 +5,7 @@ use Rattle.ba_core.specs.declared.identifiers.Id.{Id}
 use Rattle.ba_core.specs.declared.protocols.Kind.{Kind}
 use Rattle.ba_core.specs.declared.protocols.Protocol.{Protocol}
 use Rattle.ba_core.specs.declared.protocols.Protocol.TheVariants.{Pc}
+use Rattle.ba_events.specs.Events.{NumberedEvent}
 use Rattle.ba_events.specs.declared.events.Event.{Event}
 use Rattle.ba_events.specs.declared.events.Event.TheVariants as event
 use Rattle.ba_events.specs.declared.outcomes.Outcome.{Outcome}
@@ -15,7 +16,7 @@ use Rattle.ba_play.specs.Outcomes.{occasion_outcome}
 use Rattle.ba_play.specs.Plays.{EventEffect, WorldEffect, WorldOnDisks, context_handed, create_at, deliver, delivery_by_input}
 use Rattle.ba_play.specs.Plays.{effect_by_shown, effect_of_call, effect_with, has_node, join_at, mail_at, moment, next_number}
 use Rattle.ba_play.specs.Plays.{occasion_effect, open_effect, own_at, play_step, scope_named, starting_play}
-use Rattle.ba_play.specs.Shows.{NumberedEvent, Story, story, story_by, story_from}
+use Rattle.ba_play.specs.Shows.{Story, story, story_by, story_from}
 use Rattle.ba_play.specs.declared.missing.Missing.TheVariants as missing
 use Rattle.ba_runs.specs.World.{Mail, Occasion, World, WorldNode, delivers, net_of, own, ticks}
 use Rattle.ba_runs.specs.WorldSteps.{effect}

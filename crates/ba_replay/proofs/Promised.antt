@@ -1,6 +1,7 @@
 -- What a replay promises, from what its script and its play were: for `replay`, clauses `done` and `stops`.
 use Rattle.std.proofs.Common.{◌≡◌, ℕ, false, List, Option, Some, None, [], IfSome, refl, ◌∙◌, inl, inr}
 use Rattle.std.specs.Io.KnownBytes.{Appends}
+use Rattle.ba_events.specs.Events.{NumberedEvent}
 use Rattle.ba_pair.proofs.Safety.{plays_are_safe}
 use Rattle.ba_replay.specs.declared.plays.PlayFault.{PlayFault}
 use Rattle.ba_replay.specs.declared.plays.PlayFault.TheVariants as broke
@@ -20,7 +21,7 @@ use Rattle.ba_replay.specs.WorldReplay.{AreDisksLeft, HandsOut, LeavesDisks, Tel
 use Rattle.ba_replay.specs.inside.WorldPlays.{BreaksOffStory, IsHandedOut}
 use Rattle.ba_replay.specs.inside.Plays.{BreaksOff, unread_fault, unplayed_fault}
 use Rattle.ba_replay.proofs.Breaks.{keeps_same}
-use Rattle.ba_script.specs.Scripts.{NumberedEvent, IsScript, ExplainsFault}
+use Rattle.ba_script.specs.Scripts.{IsScript, ExplainsFault}
 use Rattle.ba_script.specs.Printer.{shown_lines}
 use Rattle.ba_ports.specs.Inputs.{TakesAtMost}
 use Rattle.ba_script.specs.Scripts.{most_until_fault}

@@ -1,5 +1,6 @@
 -- The play of each script of a world is safe: it has at most 64 nodes, and no more events than a script has lines.
 use Rattle.std.proofs.Common.{ℕ, suc, ◌+◌, ◌≤◌, List, [], ◌∷◌, length, Option, None, Some, sym, subst, arith}
+use Rattle.ba_events.specs.Events.{NumberedEvent}
 use Rattle.ba_forms.specs.Readings.{IsLine, IsPlayable}
 use Rattle.ba_forms.specs.declared.readings.Form.{Form}
 use Rattle.ba_forms.specs.declared.readings.Form.TheVariants as form
@@ -9,7 +10,7 @@ use Rattle.ba_play.proofs.Stories.{safe_story}
 use Rattle.ba_play.specs.SafeStories.{IsSafeStory}
 use Rattle.ba_play.specs.Shows.{story}
 use Rattle.ba_ports.specs.Lines.{lines_of}
-use Rattle.ba_script.specs.Scripts.{IsWorldScript, MeansScript, NumberedEvent, empty_script, form_after, onto_script}
+use Rattle.ba_script.specs.Scripts.{IsWorldScript, MeansScript, empty_script, form_after, onto_script}
 use Rattle.ba_script.specs.declared.scripts.Script.{Script}
 use Rattle.ba_script.specs.declared.scripts.Script.TheVariants.{Pair, World}
 

@@ -1,9 +1,10 @@
 -- How the events of a world were played so far, and how a play goes on with its next one or breaks off there: for `play_events`.
 use Rattle.std.proofs.Common.{◌≡◌, ℕ, ◌+◌, ◌<◌, List, [], ◌∷◌, ◌++◌, map, drop, get_or, length, Option, None, Some, Result, Ok, Err, IfOk}
 use Rattle.std.proofs.Common.{refl, sym, ap, ◌∙◌, subst, append-nil, append_assoc, drop-cons, add-one}
+use Rattle.ba_events.specs.Events.{NumberedEvent}
 use Rattle.ba_events.specs.declared.outcomes.Outcome.{Outcome}
 use Rattle.ba_play.specs.Plays.{EventEffect, WorldOnDisks, play_step, starting_play}
-use Rattle.ba_play.specs.Shows.{NumberedEvent, Story, event_line, story, story_by, story_from}
+use Rattle.ba_play.specs.Shows.{Story, event_line, story, story_by, story_from}
 use Rattle.ba_play.specs.declared.missing.Missing.{Missing}
 use Rattle.ba_runs.specs.World.{World}
 use Rattle.ba_world.specs.Worlds.{IsPlayedAs, IsWorldOf, WorldValue}

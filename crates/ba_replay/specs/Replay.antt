@@ -9,7 +9,7 @@ use Rattle.ba_play.specs.Shows.{Halt}
 use Rattle.ba_play.specs.declared.missing.Missing.{Missing}
 use Rattle.ba_play.specs.declared.missing.Missing.TheVariants as missing
 use Rattle.ba_ports.specs.Inputs.{TakesAtMost}
-use Rattle.ba_ports.specs.Lines.{lines_of, bytes_of}
+use Rattle.ba_ports.specs.Lines.{lines_of, byte_count}
 use Rattle.ba_ports.specs.Outputs.{WritesPart}
 use Rattle.ba_script.specs.Printer.{shown_lines}
 use Rattle.ba_script.specs.Scripts.{IsPairScript, IsBadScript, IsLongScript, lookahead}
@@ -63,13 +63,13 @@ pub record PrintsPrefix (input : List ℕ) (before now : Option (List ℕ)) : Ty
 pub record RefusesLine (input : List ℕ) (number column : ℕ) (rest before now : Option (List ℕ)) : Type 0 where
   pub bad : IsBadScript input number column
   pub kept : Keeps before now
-  pub taken : TakesAtMost (Some input) rest (bytes_of (take (number - 1) (lines_of input)) + lookahead)
+  pub taken : TakesAtMost (Some input) rest (byte_count (take (number - 1) (lines_of input)) + lookahead)
 
 -- The input has too many lines. Nothing was written, and little was read past the last line that it may have.
 pub record RefusesLength (input : List ℕ) (rest before now : Option (List ℕ)) : Type 0 where
   pub long : IsLongScript input
   pub kept : Keeps before now
-  pub taken : TakesAtMost (Some input) rest (bytes_of (take MOST_LINES (lines_of input)) + lookahead)
+  pub taken : TakesAtMost (Some input) rest (byte_count (take MOST_LINES (lines_of input)) + lookahead)
 
 -- The input is a script of a pair or of a world, and its whole play, which is safe, was written.
 abbrev pub PrintsWhole : List ℕ → Option (List ℕ) → Option (List ℕ) → Type 0

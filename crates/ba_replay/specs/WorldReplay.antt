@@ -2,11 +2,12 @@
 -- safe, and which disks are handed out.
 use Rattle.std.specs.Prelude.{◌≡◌, ℕ, Bool, true, false, List, [], ◌++◌, Option, None, Some}
 use Rattle.std.specs.Io.KnownBytes.{Appends}
+use Rattle.ba_events.specs.Events.{NumberedEvent}
 use Rattle.ba_memory.specs.DiskValue.{DiskValue}
 use Rattle.ba_play.specs.SafeStories.{IsSafeStory}
 use Rattle.ba_play.specs.Shows.{Halt, Story, story, story_lines, story_text}
 use Rattle.ba_ports.specs.Outputs.{WritesPart}
-use Rattle.ba_script.specs.Scripts.{IsScript, IsWorldScript, NumberedEvent}
+use Rattle.ba_script.specs.Scripts.{IsScript, IsWorldScript}
 use Rattle.ba_script.specs.declared.scripts.Script.{Script}
 use Rattle.ba_script.specs.declared.scripts.Script.TheVariants.{Pair, World}
 use Rattle.ba_tree.specs.Trees.{joined}

@@ -8,7 +8,7 @@ use Rattle.ba_forms.proofs.Back.{line_is_one}
 use Rattle.ba_forms.proofs.Meanings.{line_is_good}
 use Rattle.ba_pair.specs.PairPlay.{Numbered}
 use Rattle.ba_ports.specs.Lines.{lines_of}
-use Rattle.ba_script.specs.Scripts.{form_after, onto_script, MeansScript, StopsAt, IsScript, IsPairScript, IsBadScript, IsLongScript}
+use Rattle.ba_script.specs.Scripts.{form_after, onto_script, MeansScript, IsFirstBadLine, IsScript, IsPairScript, IsBadScript, IsLongScript}
 use Rattle.ba_script.specs.declared.scripts.Script.{Script}
 use Rattle.ba_script.specs.declared.scripts.Script.TheVariants.{Pair}
 
@@ -38,25 +38,25 @@ means_one form number (line ∷ lines) s t (r, later, is, s_is, one) (q, others,
     s_is ∙ onto_one form line r q is so number later others same_later ∙ sym t_is
 
 means_not_bad : (form : Option Form) (number : ℕ) (lines : List (List ℕ)) (s : Script) (bad column : ℕ)
-    → MeansScript form number lines s → StopsAt form number lines bad column → ⊥
+    → MeansScript form number lines s → IsFirstBadLine form number lines bad column → ⊥
 means_not_bad form number [] s bad column means stops = stops
 means_not_bad form number (line ∷ lines) s bad column (r, later, is, s_is, means) (inl stops) = not_bad form r line column is stops.0
 means_not_bad form number (line ∷ lines) s bad column (r, later, is, s_is, means) (inr (q, so, stops)) =
     means_not_bad (form_after form q) (number + 1) lines later bad column
     (subst (λ f. MeansScript f (number + 1) lines later) (after_one form line r q is so) means) stops
 
-stops_once : (form : Option Form) (number : ℕ) (lines : List (List ℕ)) (m n c d : ℕ) → StopsAt form number lines m c
-    → StopsAt form number lines n d → (m ≡ n) × (c ≡ d)
+stops_once : (form : Option Form) (number : ℕ) (lines : List (List ℕ)) (m n c d : ℕ) → IsFirstBadLine form number lines m c
+    → IsFirstBadLine form number lines n d → (m ≡ n) × (c ≡ d)
 stops_once form number [] m n c d one other = absurd one
 stops_once form number (line ∷ lines) m n c d (inl one) (inl other) = (one.1 ∙ sym other.1, one_column form line c d one.0 other.0)
 stops_once form number (line ∷ lines) m n c d (inl one) (inr (q, so, other)) = absurd (not_bad form q line c so one.0)
 stops_once form number (line ∷ lines) m n c d (inr (r, is, one)) (inl other) = absurd (not_bad form r line d is other.0)
 stops_once form number (line ∷ lines) m n c d (inr (r, is, one)) (inr (q, so, other)) =
     stops_once (form_after form q) (number + 1) lines m n c d
-    (subst (λ f. StopsAt f (number + 1) lines m c) (after_one form line r q is so) one) other
+    (subst (λ f. IsFirstBadLine f (number + 1) lines m c) (after_one form line r q is so) one) other
 
 stops_from : (form : Option Form) (number : ℕ) (lines : List (List ℕ)) (bad column : ℕ)
-    → StopsAt form number lines bad column → number ≤ bad
+    → IsFirstBadLine form number lines bad column → number ≤ bad
 stops_from form number [] bad column stops = absurd stops
 stops_from form number (line ∷ lines) bad column (inl stops) = omega (arith, stops.1)
 stops_from form number (line ∷ lines) bad column (inr (q, so, stops)) =
@@ -64,7 +64,7 @@ stops_from form number (line ∷ lines) bad column (inr (q, so, stops)) =
 
 -- no line is bad among the first ones that mean something
 first_not_bad : (form : Option Form) (number : ℕ) (lines : List (List ℕ)) (size : ℕ) (s : Script) (bad column : ℕ)
-    → MeansScript form number (take size lines) s → StopsAt form number lines bad column → number + size ≤ bad
+    → MeansScript form number (take size lines) s → IsFirstBadLine form number lines bad column → number + size ≤ bad
 first_not_bad form number [] size s bad column means stops = absurd stops
 first_not_bad form number (line ∷ lines) zero s bad column means stops =
     omega (arith, stops_from form number (line ∷ lines) bad column stops)

@@ -3,14 +3,15 @@ use Rattle.std.proofs.Common.{◌≡◌, ℕ, ◌+◌, ◌*◌, ◌<◌, ◌≤�
 use Rattle.std.proofs.Common.{length, take, drop, refl, sym, ap, ◌∙◌, subst, inl, inr, append_assoc, append-nil, take-append-drop, take-add}
 use Rattle.std.proofs.Common.{drop-drop, take_all, arith, length-append, length-drop}
 use Rattle.ba_core.specs.declared.protocols.Protocol.TheVariants.{Pc}
+use Rattle.ba_events.specs.Events.{NumberedEvent}
 use Rattle.ba_forms.specs.Readings.{IsLine, bad_column}
 use Rattle.ba_forms.specs.declared.readings.Form.{Form}
 use Rattle.ba_forms.specs.declared.readings.Form.TheVariants as form
 use Rattle.ba_forms.specs.declared.readings.Reading.{Reading}
 use Rattle.ba_forms.specs.declared.readings.Reading.TheVariants as reading
 use Rattle.ba_pair.specs.PairPlay.{Numbered}
-use Rattle.ba_ports.specs.Lines.{onto_first, lines_of, bytes_of}
-use Rattle.ba_script.specs.Scripts.{NumberedEvent, empty_script, form_after, onto_script, MeansScript, StopsAt, IsScript, IsBadScript}
+use Rattle.ba_ports.specs.Lines.{onto_first, lines_of, byte_count}
+use Rattle.ba_script.specs.Scripts.{empty_script, form_after, onto_script, MeansScript, IsFirstBadLine, IsScript, IsBadScript}
 use Rattle.ba_script.specs.Scripts.{IsLongScript}
 use Rattle.ba_script.specs.declared.scripts.Script.{Script}
 use Rattle.ba_script.specs.declared.scripts.Script.TheVariants.{Pair, World}
@@ -20,13 +21,13 @@ use Rattle.ba_script.specs.inside.Lines.{LosesLine}
 -- so many lines of the text were read, with these events, and this rest of it comes yet
 pub record Progress (text : List ℕ) (form : Option Form) (read : ℕ) (rest : List ℕ) (pairs : List Numbered)
     (worlds : List NumberedEvent) : Type 0 where
-  pub bytes : (beginning : List ℕ) × (text ≡ beginning ++ rest) × (length beginning ≤ bytes_of (take read (lines_of text)))
-  pub short : bytes_of (take read (lines_of text)) ≤ 257 * read
+  pub bytes : (beginning : List ℕ) × (text ≡ beginning ++ rest) × (length beginning ≤ byte_count (take read (lines_of text)))
+  pub short : byte_count (take read (lines_of text)) ≤ 257 * read
   pub left : drop read (lines_of text) ≡ lines_of rest
   pub so_far : (lines : List (List ℕ)) (later : Script) → MeansScript form (read + 1) lines later
       → MeansScript None 1 (take read (lines_of text) ++ lines) (with_events pairs worlds later)
-  pub none_bad : (lines : List (List ℕ)) (bad column : ℕ) → StopsAt form (read + 1) lines bad column
-      → StopsAt None 1 (take read (lines_of text) ++ lines) bad column
+  pub none_bad : (lines : List (List ℕ)) (bad column : ℕ) → IsFirstBadLine form (read + 1) lines bad column
+      → IsFirstBadLine None 1 (take read (lines_of text) ++ lines) bad column
 
 -- nothing before a script is the script
 with_none : (s : Script) → s ≡ with_events [] [] s
@@ -42,7 +43,7 @@ begun text = record {
   none_bad = λ lines bad column stops. stops;
 }
 
-bytes_of_more : (lines : List (List ℕ)) (line : List ℕ) → bytes_of (lines ++ line ∷ []) ≡ bytes_of lines + (length line + 1)
+bytes_of_more : (lines : List (List ℕ)) (line : List ℕ) → byte_count (lines ++ line ∷ []) ≡ byte_count lines + (length line + 1)
 bytes_of_more [] line = omega arith
 bytes_of_more (l ∷ lines) line = omega (arith, bytes_of_more lines line)
 
@@ -95,8 +96,8 @@ module _ (text : List ℕ) (chosen : Option Form) (read : ℕ) (rest : List ℕ)
       let all = lines_of text in
       let next : drop read all ≡ line ∷ lines_of later = p.left ∙ loses.lines in
       let more : take (read + 1) all ≡ take read all ++ line ∷ [] = take_next all read line (lines_of later) next in
-      let count : bytes_of (take (read + 1) all) ≡ bytes_of (take read all) + (length line + 1) =
-      ap bytes_of more ∙ bytes_of_more (take read all) line in
+      let count : byte_count (take (read + 1) all) ≡ byte_count (take read all) + (length line + 1) =
+      ap byte_count more ∙ bytes_of_more (take read all) line in
       let regroup = λ (lines : List (List ℕ)). sym (append_assoc (take read all) (line ∷ []) lines) ∙ ap (λ t. t ++ lines) (sym more) in
       record {
         bytes = (
@@ -116,7 +117,7 @@ module _ (text : List ℕ) (chosen : Option Form) (read : ℕ) (rest : List ℕ)
             (subst (MeansScript None 1 (take read all ++ line ∷ lines)) (with_more said (read + 1) pairs worlds others) whole);
         none_bad =
             λ lines bad column stops.
-            subst (λ t. StopsAt None 1 t bad column) (regroup lines) (p.none_bad (line ∷ lines) bad column (inr (said, is, stops)));
+            subst (λ t. IsFirstBadLine None 1 t bad column) (regroup lines) (p.none_bad (line ∷ lines) bad column (inr (said, is, stops)));
       }
 
   -- the lines so far mean the events so far
@@ -147,7 +148,8 @@ module _ (text : List ℕ) (chosen : Option Form) (read : ℕ) (rest : List ℕ)
       record {
         early = omega arith;
         stops =
-            subst (λ t. StopsAt None 1 t (read + 1) column) lines_are (p.none_bad (line ∷ later) (read + 1) column (inl (bad, refl)));
+            subst (λ t. IsFirstBadLine None 1 t (read + 1) column) lines_are
+            (p.none_bad (line ∷ later) (read + 1) column (inl (bad, refl)));
       }
 
   -- a line past the limit

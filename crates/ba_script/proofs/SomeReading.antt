@@ -5,7 +5,7 @@ use Rattle.std.proofs.lemmas.Bool.{ltb-true, ltb-false}
 use Rattle.ba_forms.specs.declared.readings.Form.{Form}
 use Rattle.ba_forms.proofs.Meanings.{line_means}
 use Rattle.ba_ports.specs.Lines.{lines_of}
-use Rattle.ba_script.specs.Scripts.{empty_script, form_after, onto_script, MeansScript, StopsAt, IsScript, IsBadScript, IsLongScript}
+use Rattle.ba_script.specs.Scripts.{empty_script, form_after, onto_script, MeansScript, IsFirstBadLine, IsScript, IsBadScript, IsLongScript}
 use Rattle.ba_script.specs.declared.scripts.Script.{Script}
 
 less_decided : (m n : ℕ) → (m < n) ⊎ (m < n → ⊥)
@@ -18,7 +18,7 @@ less_decided m n = by_test (nat_lt m n) refl
 -- lines mean a script, or one of them is the first bad one
 lines_decided : (form : Option Form) (number : ℕ) (lines : List (List ℕ))
     → ((s : Script) × MeansScript form number lines s) ⊎
-    ((bad : ℕ) × (column : ℕ) × (bad < number + length lines) × StopsAt form number lines bad column)
+    ((bad : ℕ) × (column : ℕ) × (bad < number + length lines) × IsFirstBadLine form number lines bad column)
 lines_decided form number [] = inl (empty_script form, refl)
 lines_decided form number (line ∷ lines) =
     elim (line_means form line) [
@@ -31,8 +31,8 @@ lines_decided form number (line ∷ lines) =
 
 -- a line that is the first bad one of the first lines is the first bad one of all
 stops_early : (form : Option Form) (number size : ℕ) (lines : List (List ℕ)) (bad column : ℕ)
-    → StopsAt form number (take size lines) bad column
-    → StopsAt form number lines bad column
+    → IsFirstBadLine form number (take size lines) bad column
+    → IsFirstBadLine form number lines bad column
 stops_early form number zero lines bad column stops = absurd stops
 stops_early form number (suc size) [] bad column stops = absurd stops
 stops_early form number (suc size) (line ∷ lines) bad column (inl stops) = inl stops

@@ -3,12 +3,13 @@ use Rattle.std.proofs.Common.{◌≡◌, ℕ, ◌+◌, ◌<◌, ◌≤◌, List,
 use Rattle.std.proofs.Common.{IfSome, inl, inr, refl, sym, ap, ◌∙◌, subst, append_assoc, arith, length-append, length-drop}
 use Rattle.std.proofs.lemmas.Bool.{lt-ltb}
 use Rattle.std.specs.Io.KnownBytes.{IsAtEnd, Keeps, prepend_known}
+use Rattle.ba_events.specs.Events.{NumberedEvent}
 use Rattle.ba_forms.specs.Readings.{IsLine, bad_column, bad_unless_remark}
 use Rattle.ba_forms.specs.declared.readings.Form.{Form}
 use Rattle.ba_forms.specs.declared.readings.Reading.{Reading}
 use Rattle.ba_pair.specs.PairPlay.{Numbered}
-use Rattle.ba_ports.specs.Lines.{lines_of, bytes_of}
-use Rattle.ba_script.specs.Scripts.{NumberedEvent, form_after, IsScript, IsBadScript, IsLongScript}
+use Rattle.ba_ports.specs.Lines.{lines_of, byte_count}
+use Rattle.ba_script.specs.Scripts.{form_after, IsScript, IsBadScript, IsLongScript}
 use Rattle.ba_script.specs.inside.Events.{pair_event_of, world_event_of, script_of}
 use Rattle.ba_script.specs.inside.Lines.{BeginsLonger, IsNextLine}
 use Rattle.ba_ports.specs.Inputs.{TakesAtMost}
@@ -121,12 +122,12 @@ module _ (form : Option Form) (read : ℕ) (pairs : List Numbered) (worlds : Lis
 
   -- how much was taken from the source, by the lines that were read
   pub taken_of : (a s : Option (List ℕ)) (lines : ℕ) → StandsAt a s b form read pairs worlds → lines ≡ read
-      → IfSome a (λ text. TakesAtMost a s (bytes_of (take lines (lines_of text)) + lookahead))
+      → IfSome a (λ text. TakesAtMost a s (byte_count (take lines (lines_of text)) + lookahead))
   taken_of None s lines at same = tt
   taken_of (Some text) None lines at same = absurd at.progress
   taken_of (Some text) (Some left) lines at same =
       let beginning = at.progress.bytes in
-      subst (λ k. TakesAtMost (Some text) (Some left) (bytes_of (take k (lines_of text)) + lookahead)) (sym same) (
+      subst (λ k. TakesAtMost (Some text) (Some left) (byte_count (take k (lines_of text)) + lookahead)) (sym same) (
         beginning.0 ++ b,
         beginning.1 ∙ sym (append_assoc beginning.0 b left),
         omega

@@ -3,7 +3,7 @@
 use Rattle.std.specs.Prelude.{◌≡◌, ℕ, ◌+◌, ◌-◌, ◌*◌, ◌<◌, ◌≤◌, ◌⊎◌, Option, None, Some, List, [], ◌∷◌, length, take}
 use Rattle.ba_core.specs.declared.protocols.Protocol.{Protocol}
 use Rattle.ba_core.specs.declared.protocols.Protocol.TheVariants.{Pc}
-use Rattle.ba_events.specs.declared.events.Event.{Event}
+use Rattle.ba_events.specs.Events.{NumberedEvent}
 use Rattle.ba_forms.specs.Readings.{IsLine, bad_column}
 use Rattle.ba_forms.specs.declared.readings.Form.{Form}
 use Rattle.ba_forms.specs.declared.readings.Form.TheVariants as form
@@ -11,17 +11,13 @@ use Rattle.ba_forms.specs.declared.readings.Reading.{Reading}
 use Rattle.ba_forms.specs.declared.readings.Reading.TheVariants as reading
 use Rattle.ba_forms.specs.declared.readings.TheConstants.{MOST_BYTES}
 use Rattle.ba_pair.specs.PairPlay.{Numbered}
-use Rattle.ba_ports.specs.Lines.{lines_of, bytes_of}
+use Rattle.ba_ports.specs.Lines.{lines_of, byte_count}
 use Rattle.ba_script.specs.declared.lines.TheConstants.{BLOCK}
 use Rattle.ba_script.specs.declared.scripts.TheConstants.{MOST_LINES}
 use Rattle.ba_script.specs.declared.scripts.Script.{Script}
 use Rattle.ba_script.specs.declared.scripts.Script.TheVariants.{Pair, World}
 use Rattle.ba_script.specs.declared.scripts.ScriptFault.{ScriptFault}
 use Rattle.ba_script.specs.declared.scripts.ScriptFault.TheVariants as fault
-
--- an event of a world and the number of its line in the script
-abbrev pub NumberedEvent : Type 0
-NumberedEvent = ℕ × Event
 
 -- the form that stands after a line; a script that begins with an event is of a ParticipantCompletion pair
 abbrev pub form_after : Option Form → Reading → Option Form
@@ -54,11 +50,11 @@ MeansScript chosen number (line ∷ lines) script =
     × (script ≡ onto_script said number later) × MeansScript (form_after chosen said) (number + 1) lines later
 
 -- the first bad line of the lines has this number, and it is bad at this column
-abbrev pub StopsAt : Option Form → ℕ → List (List ℕ) → ℕ → ℕ → Type 0
-StopsAt chosen number [] bad column = ⊥
-StopsAt chosen number (line ∷ lines) bad column =
+abbrev pub IsFirstBadLine : Option Form → ℕ → List (List ℕ) → ℕ → ℕ → Type 0
+IsFirstBadLine chosen number [] bad column = ⊥
+IsFirstBadLine chosen number (line ∷ lines) bad column =
     ((bad_column chosen line ≡ Some column) × (bad ≡ number))
-    ⊎ ((said : Reading) × IsLine chosen said line × StopsAt (form_after chosen said) (number + 1) lines bad column)
+    ⊎ ((said : Reading) × IsLine chosen said line × IsFirstBadLine (form_after chosen said) (number + 1) lines bad column)
 
 -- the text is this script
 pub record IsScript (text : List ℕ) (script : Script) : Type 0 where
@@ -76,7 +72,7 @@ IsWorldScript text nodes events = IsScript text (World nodes events)
 -- the text is no script: its first bad line has this number, and is bad at this column
 pub record IsBadScript (text : List ℕ) (bad column : ℕ) : Type 0 where
   pub early : bad ≤ MOST_LINES
-  pub stops : StopsAt None 1 (lines_of text) bad column
+  pub stops : IsFirstBadLine None 1 (lines_of text) bad column
 
 -- the text has lines past the limit, and no line up to it is bad
 pub record IsLongScript (text : List ℕ) : Type 0 where
@@ -101,7 +97,7 @@ most_of_script = MOST_LINES * (MOST_BYTES + 1) + lookahead
 
 -- no more of this text is taken until this fault is answered: the lines before what is wrong, and the look-ahead
 abbrev pub most_until_fault : List ℕ → ScriptFault → ℕ
-most_until_fault text (fault.BadLine number column) = bytes_of (take (number - 1) (lines_of text)) + lookahead
-most_until_fault text fault.TooManyLines = bytes_of (take MOST_LINES (lines_of text)) + lookahead
+most_until_fault text (fault.BadLine number column) = byte_count (take (number - 1) (lines_of text)) + lookahead
+most_until_fault text fault.TooManyLines = byte_count (take MOST_LINES (lines_of text)) + lookahead
 most_until_fault text fault.Read = most_of_script
 most_until_fault text fault.Memory = most_of_script

@@ -64,9 +64,9 @@ abbrev pub is_known_state : StateName → Bool
 is_known_state state.Other = false
 is_known_state s = true
 
-abbrev pub is_known_notice : Notice → Bool
-is_known_notice (notice.Status s) = is_known_state s
-is_known_notice n = true
+abbrev pub has_known_state : Notice → Bool
+has_known_state (notice.Status s) = is_known_state s
+has_known_state n = true
 
 abbrev pub is_known_code : Code → Bool
 is_known_code code.Other = false
@@ -82,7 +82,7 @@ is_known (message.Create expires current kind up) = is_known_context current && 
 is_known (message.Created context) = is_some context.kind
 is_known (message.Register protocol participant) = is_some protocol
 is_known (message.Registered coordinator) = true
-is_known (message.Notice n) = is_known_notice n
+is_known (message.Notice n) = has_known_state n
 is_known (message.Fault c) = is_known_code c
 
 -- ---- which can be written so that they are read back

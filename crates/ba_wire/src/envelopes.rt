@@ -6,7 +6,7 @@ ghost use Rattle.ba_soap.specs.Envelopes.{soap11};
 ghost use Rattle.ba_wire.specs.Actions.{body_name, element_uri};
 ghost use Rattle.ba_wire.specs.Elements.{body_of_message};
 ghost use Rattle.ba_xml_writer.specs.OneText.{one_text};
-ghost use Rattle.ba_wire.specs.Envelopes.{CanEncode, EndpointsFit, HasEnvelope, action_for, envelope_of, envelope_text, envelope_tree, fault_action, is_known, is_known_code, is_known_context, is_known_notice, is_known_state};
+ghost use Rattle.ba_wire.specs.Envelopes.{CanEncode, EndpointsFit, HasEnvelope, action_for, envelope_of, envelope_text, envelope_tree, fault_action, is_known, is_known_code, is_known_context, has_known_state, is_known_state};
 
 use crate::bodies::Body;
 use crate::elements::{Family, body_element};
@@ -51,7 +51,7 @@ fn is_known_context(context: &Option<Context>) -> bool
 }
 
 fn is_known_notice(notice: Notice) -> bool
-    ensures { result ≡ is_known_notice notice }
+    ensures { result ≡ has_known_state notice }
 {
     match notice {
         Notice::Status(state) => is_known_state(state),

@@ -16,7 +16,8 @@ use Rattle.ba_xml_grammar.specs.GrammarWords.{Each, IsPlainName, is_name_letter}
 use Rattle.ba_xml_names.specs.declared.levels.Declaration as reader
 use Rattle.ba_xml_writer.proofs.Resolved.{spelled_by}
 use Rattle.ba_xml_writer.specs.Namespaces.{Declaration}
-use Rattle.ba_xml_writer.specs.OneText.{Escape, text_escapes, value_escapes, spelled, escaped, qualified, valued, declarations, attributes}
+use Rattle.ba_xml_writer.specs.OneText.{Escape, text_escapes, value_escapes, spelled, escaped, qualified, valued, declaration_texts}
+use Rattle.ba_xml_writer.specs.OneText.{attributes}
 use Rattle.ba_xml_writer.specs.OneText.{element, is_end, item, row_items}
 use Rattle.ba_xml_writer.specs.Resolving.{prefix_of, before_colon}
 use Rattle.ba_xml.proofs.Fine.{IsLegal, AreFine, IsFineTag, IsFine, IsFineRow}
@@ -159,12 +160,12 @@ clean_prefix : (prefix : Option (List ℕ)) (rest : List ℕ) → IsGood prefix 
 clean_prefix None rest g r = r
 clean_prefix (Some p) rest g r = clean_front p (codes ":" ++ rest) (plain_printed p g.0) (clean_front (codes ":") rest refl r)
 
-clean_declarations : (own : List Declaration) (rest : List ℕ) → AreDeclarable own → IsClean rest → IsClean (declarations own rest)
+clean_declarations : (own : List Declaration) (rest : List ℕ) → AreDeclarable own → IsClean rest → IsClean (declaration_texts own rest)
 clean_declarations [] rest d r = r
 clean_declarations (d ∷ own) rest f r =
-    clean_front (codes " xmlns:") (d.prefix ++ valued d.space (declarations own rest)) refl
-    (clean_front d.prefix (valued d.space (declarations own rest)) (plain_printed d.prefix f.0.0)
-    (clean_value d.space (declarations own rest) f.0.2 (clean_declarations own rest f.1 r)))
+    clean_front (codes " xmlns:") (d.prefix ++ valued d.space (declaration_texts own rest)) refl
+    (clean_front d.prefix (valued d.space (declaration_texts own rest)) (plain_printed d.prefix f.0.0)
+    (clean_value d.space (declaration_texts own rest) f.0.2 (clean_declarations own rest f.1 r)))
 
 -- ---- elements
 
@@ -183,10 +184,10 @@ module _ (ds : List Declaration) (read : List reader.Declaration) (good : (space
 
   clean_start : (own : List Declaration) (name : Name) (atts : List Attribute) (rest : List ℕ) → AreDeclarable own
       → IsFineTag ds read name atts → IsClean rest
-      → IsClean (codes "<" ++ qualified ds name (declarations own (attributes ds atts rest)))
+      → IsClean (codes "<" ++ qualified ds name (declaration_texts own (attributes ds atts rest)))
   clean_start own name atts rest d f r =
-      clean_front (codes "<") (qualified ds name (declarations own (attributes ds atts rest))) refl
-      (clean_name name (declarations own (attributes ds atts rest)) f.0.0
+      clean_front (codes "<") (qualified ds name (declaration_texts own (attributes ds atts rest))) refl
+      (clean_name name (declaration_texts own (attributes ds atts rest)) f.0.0
       (clean_declarations own (attributes ds atts rest) d (clean_attributes atts rest f.1 r)))
 
   pub clean_element : (own : List Declaration) (name : Name) (atts : List Attribute) (none : Bool) (inside : List ℕ

@@ -16,7 +16,8 @@ use Rattle.ba_xml_grammar.specs.GrammarWords.{Each, IsPlainName, is_name_letter}
 use Rattle.ba_xml_names.specs.Namespaces.{nearest, first_scope, is_lawful}
 use Rattle.ba_xml_names.specs.declared.levels.Declaration as reader
 use Rattle.ba_xml_writer.proofs.Resolved.{scope_differ, resolves, few_further, named}
-use Rattle.ba_xml_writer.specs.Namespaces.{Declaration, declaration, numbered, declared, scope, further, is_further, xml_space, soap_space}
+use Rattle.ba_xml_writer.specs.Namespaces.{Declaration, declaration, numbered, declared, text_scope, further, is_further, xml_space}
+use Rattle.ba_xml_writer.specs.Namespaces.{soap_space}
 use Rattle.ba_xml_writer.specs.Namespaces.{wsa_space, wscoor_space, wsba_space}
 use Rattle.ba_xml_writer.specs.Resolving.{prefix_of, space_of, prefixes_differ}
 use Rattle.ba_xml_writer.specs.Writable.{IsWritable}
@@ -64,7 +65,7 @@ declared_good fs few =
       ),
     )
 
-scope_good : (fs : List (List ℕ)) → length fs ≤ 28 → AreGood (scope fs)
+scope_good : (fs : List (List ℕ)) → length fs ≤ 28 → AreGood (text_scope fs)
 scope_good fs few = (((refl, (refl, (refl, tt))), refl), declared_good fs few)
 
 good_in : (ds : List Declaration) → AreGood ds → (space : List ℕ) → IsGood (prefix_of ds space)
@@ -75,8 +76,8 @@ good_in (d ∷ ds) g space = by (bytes_eq space d.space) (good_in ds g.1 space)
     by true later = g.0
     by false later = later
 
-pub good_prefix : (fs : List (List ℕ)) → length fs ≤ 28 → (space : List ℕ) → IsGood (prefix_of (scope fs) space)
-good_prefix fs few = good_in (scope fs) (scope_good fs few)
+pub good_prefix : (fs : List (List ℕ)) → length fs ≤ 28 → (space : List ℕ) → IsGood (prefix_of (text_scope fs) space)
+good_prefix fs few = good_in (text_scope fs) (scope_good fs few)
 
 -- ---- the namespaces
 
@@ -92,7 +93,7 @@ numbered_none k (f ∷ fs) h =
     ∙ numbered_none (k + 1) fs hs.1
 
 -- no prefix stands for no namespace
-none_for_none : (fs : List (List ℕ)) → list_all is_further fs ≡ true → prefix_of (scope fs) [] ≡ None
+none_for_none : (fs : List (List ℕ)) → list_all is_further fs ≡ true → prefix_of (text_scope fs) [] ≡ None
 unfolding xml_space soap_space wsa_space wscoor_space wsba_space
 none_for_none fs h = numbered_none 1 fs h
 
@@ -178,7 +179,7 @@ behind_all (d ∷ own) rest prefix h =
     ap (λ b. cond b (Some d.space) (nearest prefix (map as_read own ++ rest))) (nat_list_eq_equiv.symm d.prefix prefix ∙ hs.0)
     ∙ behind_all own rest prefix hs.1
 
-found : (fs : List (List ℕ)) (prefix space : List ℕ) → prefixes_differ (scope fs) ≡ true → space_of (scope fs) prefix ≡ Some space
+found : (fs : List (List ℕ)) (prefix space : List ℕ) → prefixes_differ (text_scope fs) ≡ true → space_of (text_scope fs) prefix ≡ Some space
     → nearest prefix (read_scope fs) ≡ Some space
 unfolding xml_space
 found fs prefix space d h = by (bytes_eq prefix (codes "xml")) refl h
@@ -234,18 +235,19 @@ further_all t = all_chosen is_further (without [] (firsts (spaces_named t)))
 
 -- the prefix that is written for a namespace that the tree names means it
 pub explained : (t : Tree) → IsWritable t → (space : List ℕ) → list_any (bytes_eq space) (spaces_named t) ≡ true
-    → nearest (or_none (prefix_of (scope (further t)) space)) (read_scope (further t)) ≡ Some space
+    → nearest (or_none (prefix_of (text_scope (further t)) space)) (read_scope (further t)) ≡ Some space
 explained t w space h = by (bytes_eq space []) refl
   where
-    prefixed : (o : Option (List ℕ)) → prefix_of (scope (further t)) space ≡ o → IsSome o
+    prefixed : (o : Option (List ℕ)) → prefix_of (text_scope (further t)) space ≡ o → IsSome o
         → nearest (or_none o) (read_scope (further t)) ≡ Some space
     prefixed None e i = absurd (cc)
     prefixed (Some prefix) e i = found (further t) prefix space (scope_differ (further t) (few_further t w))
         (resolves (further t) space prefix (few_further t w) e)
 
-    by : (b : Bool) → bytes_eq space [] ≡ b → nearest (or_none (prefix_of (scope (further t)) space)) (read_scope (further t)) ≡ Some space
-    by true e = subst (λ s. nearest (or_none (prefix_of (scope (further t)) s)) (read_scope (further t)) ≡ Some s)
+    by : (b : Bool) → bytes_eq space [] ≡ b → nearest (or_none (prefix_of (text_scope (further t)) space))
+        (read_scope (further t)) ≡ Some space
+    by true e = subst (λ s. nearest (or_none (prefix_of (text_scope (further t)) s)) (read_scope (further t)) ≡ Some s)
         (sym ((bytes_eq-Decides space []).0 e))
         (ap (λ o. nearest (or_none o) (read_scope (further t))) (none_for_none (further t) (further_all t))
         ∙ bare_space (further t) (few_further t w))
-    by false e = prefixed (prefix_of (scope (further t)) space) refl (named t space e h)
+    by false e = prefixed (prefix_of (text_scope (further t)) space) refl (named t space e h)

@@ -10,7 +10,7 @@ use Rattle.ba_xml_names.specs.Namespaces.{first_scope, opened, opening}
 use Rattle.ba_xml_names.specs.declared.levels.Declaration as reader
 use Rattle.ba_xml_writer.proofs.Children.{row_is, end_is}
 use Rattle.ba_xml_writer.proofs.Resolved.{few_further, scope_differ}
-use Rattle.ba_xml_writer.specs.Namespaces.{Declaration, declared, scope, further}
+use Rattle.ba_xml_writer.specs.Namespaces.{Declaration, declared, text_scope, further}
 use Rattle.ba_xml_writer.specs.OneText.{is_end, items, row_items, element, is_empty, one_text}
 use Rattle.ba_xml_writer.specs.Resolving.{prefix_of}
 use Rattle.ba_xml_writer.specs.Writable.{IsWritable, HasRoom}
@@ -34,7 +34,7 @@ one_root s false inside = tt
 
 module _ (t : Tree) (w : IsWritable t) where
   abbrev ds : List Declaration
-  ds = scope (further t)
+  ds = text_scope (further t)
 
   abbrev own : List Declaration
   own = declared (further t)

@@ -15,7 +15,7 @@ use Rattle.ba_tree.specs.declared.trees.Attribute.{Attribute}
 use Rattle.ba_xml_names.proofs.Openings.{lawful}
 use Rattle.ba_xml_grammar.specs.Grammar.{Pair, value_of, attribute, tag}
 use Rattle.ba_xml_names.specs.Namespaces.{is_declaration, declaration_of, declarations, is_lawful, nearest, named, element_name}
-use Rattle.ba_xml_names.specs.Namespaces.{attribute_name, attribute_of, valued, placed, placed_by, put_one, put_in_order, opened}
+use Rattle.ba_xml_names.specs.Namespaces.{attribute_name, attribute_of, attribute_with, placed, placed_by, put_one, put_in_order, opened}
 use Rattle.ba_xml_names.specs.Namespaces.{opening_in, opening}
 use Rattle.ba_xml_names.specs.declared.levels.Declaration as reader
 use Rattle.ba_xml_words.specs.declared.names.RawAttribute.{RawAttribute}
@@ -142,9 +142,9 @@ module _ (ds : List Declaration) (read : List reader.Declaration) (good : (space
 
   attribute_meant : (a : Attribute) → IsFineAttribute ds read a → attribute_of read (attribute (pair (raw ds a.name) a.value)) ≡ Some a
   attribute_meant a f =
-      ap (option_map (valued (value_of (value_pieces a.value))))
+      ap (option_map (attribute_with (value_of (value_pieces a.value))))
       (attribute_named (prefix_of ds a.name.space) a.name (good a.name.space) f.0.1)
-      ∙ ap (λ value. Some (valued value a.name)) (value_meant a.value)
+      ∙ ap (λ value. Some (attribute_with value a.name)) (value_meant a.value)
 
   attributes_meant : (rows more : List Attribute) → AreFine ds read more → Rise more → AreUnder rows more
       → put_in_order read rows (map attribute (attribute_pairs ds more)) ≡ Some (rows ++ more)

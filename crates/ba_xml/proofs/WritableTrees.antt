@@ -19,7 +19,7 @@ use Rattle.ba_tree.specs.declared.trees.Tree.{Tree}
 use Rattle.ba_tree.specs.declared.trees.Content.{Child}
 use Rattle.ba_xml_words.specs.Classes.{is_first_letter}
 use Rattle.ba_xml_grammar.specs.GrammarWords.{Each, IsPlainName, is_name_letter}
-use Rattle.ba_xml_writer.specs.Namespaces.{scope, further}
+use Rattle.ba_xml_writer.specs.Namespaces.{text_scope, further}
 use Rattle.ba_xml_writer.specs.Writable.{IsWritable}
 use Rattle.ba_xml.proofs.Declared.{read_scope, explained}
 use Rattle.ba_xml.proofs.Fine.{IsFineName, IsFineAttribute, AreFine, IsBefore, Rise, IsFineTag, IsFine}
@@ -97,11 +97,11 @@ passes t e = (is_fit_element e && list_all (is_known t) (named_spaces e)) && nat
 
 module _ (t : Tree) (w : IsWritable t) where
   fine_name : (name : Name) → is_fit_name name ≡ true → is_known t name.space ≡ true
-      → IsFineName (scope (further t)) (read_scope (further t)) name
+      → IsFineName (text_scope (further t)) (read_scope (further t)) name
   fine_name name h k = (plain_is name.local (both (is_plain_name name.local) (is_legal_text name.space) h).0, explained t w name.space k)
 
   fine_attribute : (a : Attribute) → is_fit_attribute a ≡ true → is_known t a.name.space ≡ true
-      → IsFineAttribute (scope (further t)) (read_scope (further t)) a
+      → IsFineAttribute (text_scope (further t)) (read_scope (further t)) a
   fine_attribute a h k =
       let hs : ((is_fit_name a.name && not (declares a.name)) ≡ true)
       × (is_legal_text a.value ≡ true) = both (is_fit_name a.name && not (declares a.name)) (is_legal_text a.value) h in
@@ -109,7 +109,7 @@ module _ (t : Tree) (w : IsWritable t) where
       (fine_name a.name ns.0 k, not_true (declares a.name) ns.1, legal_of a.value hs.1)
 
   fine_attributes : (atts : List Attribute) → list_all is_fit_attribute atts ≡ true
-      → list_all (is_known t) (map (λ a. a.name.space) atts) ≡ true → AreFine (scope (further t)) (read_scope (further t)) atts
+      → list_all (is_known t) (map (λ a. a.name.space) atts) ≡ true → AreFine (text_scope (further t)) (read_scope (further t)) atts
   fine_attributes [] h k = tt
   fine_attributes (a ∷ more) h k =
       let hs : (is_fit_attribute a ≡ true) × (list_all is_fit_attribute more ≡ true) =
@@ -119,7 +119,7 @@ module _ (t : Tree) (w : IsWritable t) where
       (fine_attribute a hs.0 ks.0, fine_attributes more hs.1 ks.1)
 
   fine_tag : (e : Element) → passes t e ≡ true
-      → IsFineTag (scope (further t)) (read_scope (further t)) e.name e.attributes × (length e.attributes ≤ 32)
+      → IsFineTag (text_scope (further t)) (read_scope (further t)) e.name e.attributes × (length e.attributes ≤ 32)
   fine_tag e h =
       let outer : ((is_fit_element e && list_all (is_known t) (named_spaces e)) ≡ true) × (nat_le (length e.attributes) 32 ≡ true) =
       both (is_fit_element e && list_all (is_known t) (named_spaces e)) (nat_le (length e.attributes) 32) h in
@@ -155,8 +155,8 @@ module _ (t : Tree) (w : IsWritable t) where
       all_both (λ e. is_fit_element e && list_all (is_known t) (named_spaces e)) (λ e. nat_le (length e.attributes) 32) (elements t)
       (all_both is_fit_element (λ e. list_all (is_known t) (named_spaces e)) (elements t) w.fit all_known) w.few
 
-  pub fine_writable : IsFine (scope (further t)) (read_scope (further t)) 1 (Child t)
-  fine_writable = fine_tree (scope (further t)) (read_scope (further t)) (passes t) fine_tag fit_parts t all_pass w.deep
+  pub fine_writable : IsFine (text_scope (further t)) (read_scope (further t)) 1 (Child t)
+  fine_writable = fine_tree (text_scope (further t)) (read_scope (further t)) (passes t) fine_tag fit_parts t all_pass w.deep
 
   -- ---- the namespaces are texts
 

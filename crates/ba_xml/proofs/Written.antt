@@ -7,7 +7,8 @@ use Rattle.ba_xml_grammar.specs.Grammar.{Pair, Pieces, nothing, written_value, w
 use Rattle.ba_xml_grammar.specs.GrammarWords.{written_name}
 use Rattle.ba_xml_writer.proofs.Resolved.{spelled_by}
 use Rattle.ba_xml_writer.specs.Namespaces.{Declaration}
-use Rattle.ba_xml_writer.specs.OneText.{text_escapes, value_escapes, spelled, escaped, qualified, valued, declarations, attributes, element}
+use Rattle.ba_xml_writer.specs.OneText.{text_escapes, value_escapes, spelled, escaped, qualified, valued, declaration_texts, attributes}
+use Rattle.ba_xml_writer.specs.OneText.{element}
 use Rattle.ba_xml_writer.specs.OneText.{is_end, item, row_items}
 use Rattle.ba_xml_writer.specs.Resolving.{prefix_of, before_colon}
 use Rattle.ba_xml.proofs.Prefixes.{IsGood}
@@ -73,7 +74,7 @@ module _ (ds : List Declaration) (good : (space : List ℕ) → IsGood (prefix_o
       ∙ ap (λ l. codes " " ++ qualified ds a.name (valued a.value l)) (attributes_written more rest)
 
   declarations_written : (own : List Declaration) (others : List Pair) (rest : List ℕ)
-      → written_pairs (declared_pairs own others) rest ≡ declarations own (written_pairs others rest)
+      → written_pairs (declared_pairs own others) rest ≡ declaration_texts own (written_pairs others rest)
   declarations_written [] others rest = refl
   declarations_written (d ∷ own) others rest =
       let later : List ℕ = written_pairs (declared_pairs own others) rest in
@@ -81,11 +82,11 @@ module _ (ds : List Declaration) (good : (space : List ℕ) → IsGood (prefix_o
       ∙ ap (λ l. codes " xmlns:" ++ (d.prefix ++ valued d.space l)) (declarations_written own others rest)
 
   start_written : (own : List Declaration) (name : Name) (atts : List Attribute) (rest : List ℕ)
-      → written_start (start ds own name atts) rest ≡ codes "<" ++ qualified ds name (declarations own (attributes ds atts rest))
+      → written_start (start ds own name atts) rest ≡ codes "<" ++ qualified ds name (declaration_texts own (attributes ds atts rest))
   start_written own name atts rest =
       ap (λ l. 60 ∷ l) (name_written name (written_pairs (declared_pairs own (attribute_pairs ds atts)) rest))
       ∙ ap (λ l. 60 ∷ qualified ds name l) (declarations_written own (attribute_pairs ds atts) rest)
-      ∙ ap (λ l. 60 ∷ qualified ds name (declarations own l)) (attributes_written atts rest)
+      ∙ ap (λ l. 60 ∷ qualified ds name (declaration_texts own l)) (attributes_written atts rest)
 
   -- ---- elements
 
@@ -96,7 +97,7 @@ module _ (ds : List Declaration) (good : (space : List ℕ) → IsGood (prefix_o
   element_written own name atts true inside f p rest within = start_written own name atts (47 ∷ 62 ∷ written p rest)
   element_written own name atts false inside f p rest within =
       start_written own name atts (62 ∷ written inside (written_end (raw ds name) [] (written p rest)))
-      ∙ ap (λ l. codes "<" ++ qualified ds name (declarations own (attributes ds atts (62 ∷ l))))
+      ∙ ap (λ l. codes "<" ++ qualified ds name (declaration_texts own (attributes ds atts (62 ∷ l))))
       (ap (λ l. written inside (60 ∷ 47 ∷ l)) (name_written name (62 ∷ written p rest))
       ∙ within (codes "</" ++ qualified ds name (codes ">" ++ written p rest)))
 

@@ -27,12 +27,12 @@ IsWellFormed bytes = (d : Document) × IsWrittenAs bytes d
 abbrev pub IsSmall : List ℕ → Document → Type 0
 IsSmall bytes d = (length bytes ≤ 262144) × Small 1 d.root
 
-abbrev pub Means : Document → Tree → Type 0
-Means d tree = Resolves first_scope d.root × (meaning first_scope d.root ≡ Child tree ∷ [])
+abbrev pub MeansTree : Document → Tree → Type 0
+MeansTree d tree = Resolves first_scope d.root × (meaning first_scope d.root ≡ Child tree ∷ [])
 
 -- the bytes are a text of this tree
 abbrev pub IsXmlText : List ℕ → Tree → Type 0
-IsXmlText bytes tree = (d : Document) × IsWrittenAs bytes d × IsSmall bytes d × Means d tree
+IsXmlText bytes tree = (d : Document) × IsWrittenAs bytes d × IsSmall bytes d × MeansTree d tree
 
 -- some bytes continue these to a text, whatever its prefixes mean and its size
 abbrev pub CanContinue : List ℕ → Type 0

@@ -16,7 +16,8 @@ use Rattle.ba_tree.specs.declared.trees.Name.{Name}
 use Rattle.ba_xml_names.proofs.Openings as openings
 use Rattle.ba_tree.specs.Namespaces.{xml_space}
 use Rattle.ba_xml_names.specs.Namespaces.{is_default, is_prefixed, is_declaration, declaration_of}
-use Rattle.ba_xml_names.specs.Namespaces.{declarations, is_lawful, nearest, named, element_name, attribute_name, valued, attribute_of}
+use Rattle.ba_xml_names.specs.Namespaces.{declarations, is_lawful, nearest, named, element_name, attribute_name, attribute_with}
+use Rattle.ba_xml_names.specs.Namespaces.{attribute_of}
 use Rattle.ba_xml_names.specs.Namespaces.{placed_by, placed, put_one, put_in_order, opened, opening_in, opening}
 use Rattle.ba_xml_names.specs.declared.levels.Declaration.{Declaration}
 use Rattle.ba_xml_names.specs.declared.levels.Opening.{Opening}
@@ -24,7 +25,7 @@ use Rattle.ba_xml_words.specs.declared.names.RawAttribute.{RawAttribute}
 use Rattle.ba_xml_words.specs.declared.names.RawName.{RawName}
 use Rattle.ba_xml_names.specs.declared.tags.Tag.{Tag}
 use Rattle.ba_xml_names.specs.Resolution.{IsDefaultDeclaration, IsPrefixDeclaration, DeclaresNothing, Declares, AreDeclarations, IsLawful}
-use Rattle.ba_xml_names.specs.Resolution.{AreLawful, prefix_declared, IsUndeclared, IsNearest, IsElementName, IsAttributeName}
+use Rattle.ba_xml_names.specs.Resolution.{AreLawfulDeclarations, prefix_declared, IsUndeclared, IsNearest, IsElementName, IsAttributeName}
 use Rattle.ba_xml_names.specs.Resolution.{IsAttribute, AreAttributes, PutAmong, AreInOrder, IsMeaning}
 
 -- ---- tests
@@ -200,13 +201,13 @@ is_lawful_so d l =
     is_lawful_by d l (bytes_eq d.prefix []) (bytes_eq d.prefix (codes "xmlns")) (bytes_eq d.prefix (codes "xml"))
     (bytes_eq d.space xml_space) (bytes_eq d.space []) refl refl refl refl refl
 
-are_lawful : (ds : List Declaration) → list_all is_lawful ds ≡ true → AreLawful ds
+are_lawful : (ds : List Declaration) → list_all is_lawful ds ≡ true → AreLawfulDeclarations ds
 are_lawful [] h = tt
 are_lawful (d ∷ ds) h =
     let hs : (is_lawful d ≡ true) × (list_all is_lawful ds ≡ true) = both (is_lawful d) (list_all is_lawful ds) h in
     (lawful_is d hs.0, are_lawful ds hs.1)
 
-are_lawful_so : (ds : List Declaration) → AreLawful ds → list_all is_lawful ds ≡ true
+are_lawful_so : (ds : List Declaration) → AreLawfulDeclarations ds → list_all is_lawful ds ≡ true
 are_lawful_so [] l = refl
 are_lawful_so (d ∷ ds) l = joined (is_lawful d) (list_all is_lawful ds) (is_lawful_so d l.0) (are_lawful_so ds l.1)
 
@@ -275,10 +276,10 @@ attribute_name_so ds raw name (l, inr h) =
     ap (λ b. cond b (Some (named raw.local [])) (element_name ds raw)) (differs raw.prefix [] h.0) ∙ element_so ds raw name (l, h.1)
 
 attribute_by : (ds : List Declaration) (raw : RawAttribute) (a : Attribute) (found : Option Name) → attribute_name ds raw.name ≡ found
-    → option_map (valued raw.value) found ≡ Some a → IsAttribute ds raw a
+    → option_map (attribute_with raw.value) found ≡ Some a → IsAttribute ds raw a
 attribute_by ds raw a None e h = absurd (none_some a h)
 attribute_by ds raw a (Some name) e h =
-    let one : valued raw.value name ≡ a = same_some (valued raw.value name) a h in (
+    let one : attribute_with raw.value name ≡ a = same_some (attribute_with raw.value name) a h in (
       sym (ap (λ x. x.value) one),
       attribute_name_by ds raw.name a.name (bytes_eq raw.name.prefix []) refl (e ∙ ap (λ x. Some x.name) one),
     )
@@ -288,7 +289,7 @@ attribute_is ds raw a h = attribute_by ds raw a (attribute_name ds raw.name) ref
 
 attribute_so : (ds : List Declaration) (raw : RawAttribute) (a : Attribute) → IsAttribute ds raw a → attribute_of ds raw ≡ Some a
 attribute_so ds raw a h =
-    ap (option_map (valued raw.value)) (attribute_name_so ds raw.name a.name h.1)
+    ap (option_map (attribute_with raw.value)) (attribute_name_so ds raw.name a.name h.1)
     ∙ ap Some (λ i. record { name = a.name; value = sym h.0 i })
 
 -- ---- rising order
@@ -519,7 +520,7 @@ by_lawful around tag o true e h =
     = opened_name (own ++ around) own tag o (element_name (own ++ around) tag.name) refl (sym (openings.lawful around tag e) ∙ h) in
     record {
       declarations = subst (AreDeclarations tag.attributes) (sym in_scope.1) (are_declarations tag.attributes);
-      lawful = subst AreLawful (sym in_scope.1) (are_lawful own e);
+      lawful = subst AreLawfulDeclarations (sym in_scope.1) (are_lawful own e);
       name = subst (λ ds. IsElementName (ds ++ around) tag.name o.name) (sym in_scope.1) in_scope.0;
       attributes = subst (λ ds. AreInOrder (ds ++ around) tag.attributes o.attributes) (sym in_scope.1) in_scope.2;
     }
@@ -538,7 +539,7 @@ opening_so ds own tag o d n a =
 pub only_rule : (around : List Declaration) (tag : Tag) (o : Opening) → IsMeaning around tag o → opening around tag ≡ Some o
 only_rule around tag o m =
     let own : o.declarations ≡ declarations tag.attributes = only_declarations tag.attributes o.declarations m.declarations in
-    openings.lawful around tag (are_lawful_so (declarations tag.attributes) (subst AreLawful own m.lawful))
+    openings.lawful around tag (are_lawful_so (declarations tag.attributes) (subst AreLawfulDeclarations own m.lawful))
     ∙ opening_so (declarations tag.attributes ++ around) (declarations tag.attributes) tag o own
     (subst (λ ds. IsElementName (ds ++ around) tag.name o.name) own m.name)
     (subst (λ ds. AreInOrder (ds ++ around) tag.attributes o.attributes) own m.attributes)

@@ -12,7 +12,7 @@ use Rattle.std.specs.declared.cmp.Ordering.{Ordering}
 use Rattle.std.specs.declared.cmp.Ordering.TheVariants as order
 use Rattle.ba_tree.specs.declared.trees.Attribute.{Attribute}
 use Rattle.ba_tree.specs.declared.trees.Name.{Name}
-use Rattle.ba_xml_names.specs.Namespaces.{placed, placed_by, placed_at, put_one, attribute_of, IsWithin}
+use Rattle.ba_xml_names.specs.Namespaces.{placed, placed_by, placed_at, put_one, attribute_of, IsSpotWithin}
 use Rattle.ba_xml_names.specs.declared.levels.Declaration.{Declaration}
 use Rattle.ba_xml_names.specs.inside.Rows.{IsBelow, AreRising, gap_of}
 use Rattle.ba_xml_words.specs.declared.names.RawAttribute.{RawAttribute}
@@ -118,7 +118,7 @@ searched a rows (Err index) u le h = free a rows index le (parts.0) (parts.1)
         × AllWithin (λ row. name_cmp row.name a.name ≡ order.Greater) rows index (length rows)
     parts = h (comparisons_rise a.name rows u)
 
-pub within : (rows : List Attribute) (r : Result ℕ ℕ) → IsSearchInRange r (length rows) → IsWithin (gap_of r) (length rows)
+pub within : (rows : List Attribute) (r : Result ℕ ℕ) → IsSearchInRange r (length rows) → IsSpotWithin (gap_of r) (length rows)
 within rows (Ok index) lt = tt
 within rows (Err index) le = le
 

@@ -70,11 +70,11 @@ element_name ds name = option_map (named name.local) (nearest name.prefix ds)
 abbrev pub attribute_name : List Declaration → RawName → Option Name
 attribute_name ds name = cond (bytes_eq name.prefix []) (Some (named name.local [])) (element_name ds name)
 
-abbrev pub valued : List ℕ → Name → Attribute
-valued value name = record { name = name; value = value }
+abbrev pub attribute_with : List ℕ → Name → Attribute
+attribute_with value name = record { name = name; value = value }
 
 abbrev pub attribute_of : List Declaration → RawAttribute → Option Attribute
-attribute_of ds a = option_map (valued a.value) (attribute_name ds a.name)
+attribute_of ds a = option_map (attribute_with a.value) (attribute_name ds a.name)
 
 -- an attribute put where it belongs among others; none where one of these has its name
 abbrev pub placed_by : Ordering → Attribute → Attribute → List Attribute → Option (List Attribute) → Option (List Attribute)
@@ -113,6 +113,6 @@ abbrev pub placed_at : Spot → Attribute → List Attribute → Option (List At
 placed_at Taken a rows = None
 placed_at (At index) a rows = Some (insert rows index a)
 
-abbrev pub IsWithin : Spot → ℕ → Type 0
-IsWithin Taken most = Unit {0}
-IsWithin (At index) most = index ≤ most
+abbrev pub IsSpotWithin : Spot → ℕ → Type 0
+IsSpotWithin Taken most = Unit {0}
+IsSpotWithin (At index) most = index ≤ most

@@ -45,9 +45,9 @@ pub record IsLawful (d : Declaration) : Type 0 where
   -- no prefix is declared empty; the default namespace may be
   pub some : d.space ≡ [] → d.prefix ≡ []
 
-abbrev pub AreLawful : List Declaration → Type 0
-AreLawful [] = Unit {0}
-AreLawful (d ∷ ds) = IsLawful d × AreLawful ds
+abbrev pub AreLawfulDeclarations : List Declaration → Type 0
+AreLawfulDeclarations [] = Unit {0}
+AreLawfulDeclarations (d ∷ ds) = IsLawful d × AreLawfulDeclarations ds
 
 -- ---- names (sections 4 to 6.2)
 
@@ -104,7 +104,7 @@ pub record AreInOrder (scope : List Declaration) (raws : List RawAttribute) (all
 
 pub record IsMeaning (around : List Declaration) (tag : Tag) (o : Opening) : Type 0 where
   pub declarations : AreDeclarations tag.attributes o.declarations
-  pub lawful : AreLawful o.declarations
+  pub lawful : AreLawfulDeclarations o.declarations
   -- the element's own declarations hold in its tag, and are nearer than those around it
   pub name : IsElementName (o.declarations ++ around) tag.name o.name
   pub attributes : AreInOrder (o.declarations ++ around) tag.attributes o.attributes

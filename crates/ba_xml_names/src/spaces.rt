@@ -3,7 +3,7 @@ ghost use Rattle.std.specs.Prelude.{◌≡◌, ◌≤◌, ◌++◌, ◌∷◌, �
 ghost use Rattle.std.specs.List.{list_all};
 ghost use Rattle.std.specs.Vec.Iter.{into_iter_items};
 ghost use Rattle.ba_tree.specs.Namespaces.{xml_space};
-ghost use Rattle.ba_xml_names.specs.Namespaces.{opening, opening_in, scope, first_scope, is_default, is_prefixed, is_declaration, declaration_of, declarations, is_lawful, is_lawful_prefix, nearest, element_name, attribute_name, attribute_of, placed, placed_at, put_one, put_in_order, IsWithin};
+ghost use Rattle.ba_xml_names.specs.Namespaces.{opening, opening_in, scope, first_scope, is_default, is_prefixed, is_declaration, declaration_of, declarations, is_lawful, is_lawful_prefix, nearest, element_name, attribute_name, attribute_of, placed, placed_at, put_one, put_in_order, IsSpotWithin};
 ghost use Rattle.ba_xml_names.specs.inside.Rows.{AreRising, gap_of};
 
 use crate::boxed::Held;
@@ -377,7 +377,7 @@ fn put_at(
 fn spot_of(rows: &[Attribute], row: &Attribute) -> Spot
     requires { AreRising rows.now }
     ensures spot { placed row.now rows.now ≡ placed_at result row.now rows.now }
-    ensures within { IsWithin result (length rows.now) }
+    ensures within { IsSpotWithin result (length rows.now) }
 {
     gap(rows.binary_search_by(|other| other.name.cmp(&row.name)))
 }

@@ -30,7 +30,7 @@ use Rattle.ba_xml_grammar.specs.GrammarWords.{Each, IsPlainName, IsName, is_name
 use Rattle.ba_xml_names.proofs.OpeningRules.{by_rule}
 use Rattle.ba_tree.specs.Namespaces.{xml_space}
 use Rattle.ba_xml_names.specs.Namespaces.{opening, first_scope}
-use Rattle.ba_xml_names.specs.Resolution.{DeclaresNothing, AreDeclarations, AreLawful, prefix_declared, IsNearest}
+use Rattle.ba_xml_names.specs.Resolution.{DeclaresNothing, AreDeclarations, AreLawfulDeclarations, prefix_declared, IsNearest}
 use Rattle.ba_xml_names.specs.Resolution.{IsAttributeName, IsAttribute, AreAttributes, PutAmong, IsMeaning}
 use Rattle.ba_xml_names.specs.declared.levels.Declaration.{Declaration}
 use Rattle.ba_xml_names.specs.declared.levels.Opening.{Opening}
@@ -120,11 +120,12 @@ sound_nearest : (scope : List Declaration) (p s : List ℕ) → AreSound scope �
     → (is_legal_text s ≡ true) × (s ≡ [] → p ≡ [])
 sound_nearest scope p s a n = sound_behind n.nearer (prefix_declared p s) n.farther (subst AreSound n.parts a)
 
-sound_own : (raws : List RawAttribute) (ds : List Declaration) → AreLegal raws → AreDeclarations raws ds → AreLawful ds → AreSound ds
+sound_own : (raws : List RawAttribute) (ds : List Declaration) → AreLegal raws → AreDeclarations raws ds
+    → AreLawfulDeclarations ds → AreSound ds
 sound_own [] ds l a w = subst AreSound (sym a) tt
 sound_own (raw ∷ more) ds l (inl a) w = sound_own more ds l.2 a.1 w
 sound_own (raw ∷ more) ds l (inr a) w =
-    let own : AreLawful (a.0 ∷ a.1) = subst AreLawful a.2 w in
+    let own : AreLawfulDeclarations (a.0 ∷ a.1) = subst AreLawfulDeclarations a.2 w in
     subst AreSound (sym a.2) (ap is_legal_text a.3.0 ∙ l.0, own.0.some, sound_own more a.1 l.2 a.4 own.1)
 
 -- ---- attributes by their meaning

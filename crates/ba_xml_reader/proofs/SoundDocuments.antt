@@ -16,7 +16,7 @@ use Rattle.ba_xml_reader.specs.inside.Machine.{document, act_by, root_of, child_
 use Rattle.ba_xml_names.specs.Namespaces.{first_scope}
 use Rattle.ba_xml_grammar.specs.Grammar.{Pieces, nothing, empty, element, Head, no_head, Document, written_mark, written_heading}
 use Rattle.ba_xml_grammar.specs.Grammar.{written_misc, written_document, meaning, IsRoot, IsHeading, IsDocument, Small}
-use Rattle.ba_xml_grammar.specs.GrammarTexts.{Means}
+use Rattle.ba_xml_grammar.specs.GrammarTexts.{MeansTree}
 use Rattle.ba_xml_words.specs.declared.classes.Class.{Class}
 use Rattle.ba_xml_words.specs.declared.classes.Class.TheVariants as class
 use Rattle.ba_xml_words.specs.declared.faults.Reason.{Reason}
@@ -58,7 +58,7 @@ abbrev pub Headed : Tree → List ℕ → Type 0
 Headed t bs = (h : Head) × (rest : List ℕ) × IsHeading h × (bs ≡ written_heading h rest) × Outside document [] rest t
 
 abbrev pub IsDocumentOf : Tree → List ℕ → Type 0
-IsDocumentOf t bs = (d : Document) × IsDocument d × (bs ≡ written_document d) × Small 1 d.root × Means d t
+IsDocumentOf t bs = (d : Document) × IsDocument d × (bs ≡ written_document d) × Small 1 d.root × MeansTree d t
 
 whole : (t : Tree) (mark : Bool) (bs : List ℕ) → Headed t bs → IsDocumentOf t (written_mark mark bs)
 whole t mark bs h = (

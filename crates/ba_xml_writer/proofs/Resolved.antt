@@ -8,7 +8,7 @@ use Rattle.std.proofs.lemmas.Slice.Eq.{bytes_eq-Decides}
 use Rattle.std.proofs.lemmas.Fmt.{decimal_is_IsNumeral}
 use Rattle.ba_tree.specs.Trees.{namespaces, spaces_named, firsts, without}
 use Rattle.ba_tree.specs.declared.trees.Tree.{Tree}
-use Rattle.ba_xml_writer.specs.Namespaces.{Declaration, numbered, scope, further, is_further, xml_space, soap_space, wsa_space}
+use Rattle.ba_xml_writer.specs.Namespaces.{Declaration, numbered, text_scope, further, is_further, xml_space, soap_space, wsa_space}
 use Rattle.ba_xml_writer.specs.Namespaces.{wscoor_space, wsba_space}
 use Rattle.ba_xml_writer.specs.OneText.{prefixed}
 use Rattle.ba_xml_writer.specs.Resolving.{prefix_of, space_of, before_colon, prefixes_differ}
@@ -54,7 +54,7 @@ numbered_differ k (f ∷ fs) top =
     let wide : k + 1 + length fs ≤ 100 = omega arith in
     ap (λ b. not b && prefixes_differ (numbered (k + 1) fs)) (later_differ k (k + 1) fs less wide) ∙ numbered_differ (k + 1) fs over
 
-pub scope_differ : (fs : List (List ℕ)) → length fs ≤ 28 → prefixes_differ (scope fs) ≡ true
+pub scope_differ : (fs : List (List ℕ)) → length fs ≤ 28 → prefixes_differ (text_scope fs) ≡ true
 scope_differ fs top =
     let over : 1 + length fs ≤ 99 = omega arith in
     let x = others_differ 120 (codes "ml") 1 fs refl in
@@ -117,8 +117,9 @@ resolved (d ∷ ds) s p n h =
     resolved_step (bytes_eq s d.space) d ds s p refl h (and_first (list_any (λ e. bytes_eq d.prefix e.prefix) ds) (prefixes_differ ds) n)
     (resolved ds s p (and_second (list_any (λ e. bytes_eq d.prefix e.prefix) ds) (prefixes_differ ds) n))
 
-pub resolves : (fs : List (List ℕ)) (s p : List ℕ) → length fs ≤ 28 → prefix_of (scope fs) s ≡ Some p → space_of (scope fs) p ≡ Some s
-resolves fs s p top h = resolved (scope fs) s p (scope_differ fs top) h
+pub resolves : (fs : List (List ℕ)) (s p : List ℕ) → length fs ≤ 28 → prefix_of (text_scope fs) s ≡ Some p
+    → space_of (text_scope fs) p ≡ Some s
+resolves fs s p top h = resolved (text_scope fs) s p (scope_differ fs top) h
 
 pub few_further : (t : Tree) → IsWritable t → length (further t) ≤ 28
 few_further t w =
@@ -210,7 +211,7 @@ five false false false false true p q r u v later h = refl
 five false false false false false p q r u v later h = h refl
 
 pub named : (t : Tree) (s : List ℕ) → bytes_eq s [] ≡ false → list_any (bytes_eq s) (spaces_named t) ≡ true
-    → IsSome (prefix_of (scope (further t)) s)
+    → IsSome (prefix_of (text_scope (further t)) s)
 named t s n h =
     five (bytes_eq s xml_space) (bytes_eq s soap_space) (bytes_eq s wsa_space) (bytes_eq s wscoor_space) (bytes_eq s wsba_space)
     (codes "xml") (codes "soap") (codes "wsa") (codes "wscoor") (codes "wsba") (prefix_of (numbered 1 (further t)) s)

@@ -54,8 +54,8 @@ abbrev pub declared : List (List ℕ) → List Declaration
 declared further = fixed ++ numbered 1 further
 
 -- what holds in the whole text
-abbrev pub scope : List (List ℕ) → List Declaration
-scope further = xml ∷ declared further
+abbrev pub text_scope : List (List ℕ) → List Declaration
+text_scope further = xml ∷ declared further
 
 -- the namespace is neither none nor one that has its prefix in every text
 abbrev pub is_further : List ℕ → Bool

@@ -6,7 +6,7 @@ use Rattle.ba_tree.specs.declared.trees.Name.{Name}
 use Rattle.ba_tree.specs.declared.trees.Attribute.{Attribute}
 use Rattle.ba_tree.specs.declared.trees.Tree.{Tree}
 use Rattle.ba_tree.specs.declared.trees.Content.{Content, Text, Child', Row_of-Content, end_of-Content, more_of-Content}
-use Rattle.ba_xml_writer.specs.Namespaces.{Declaration, declared, scope, further}
+use Rattle.ba_xml_writer.specs.Namespaces.{Declaration, declared, text_scope, further}
 
 -- a byte that isn't written as itself, and its spelling
 pub record Escape : Type 0 where
@@ -54,9 +54,9 @@ qualified ds name rest = prefixed ds name.space (name.local ++ rest)
 abbrev pub valued : List ℕ → List ℕ → List ℕ
 valued value rest = codes "=\"" ++ escaped value_escapes value (codes "\"" ++ rest)
 
-abbrev pub declarations : List Declaration → List ℕ → List ℕ
-declarations [] rest = rest
-declarations (d ∷ ds) rest = codes " xmlns:" ++ (d.prefix ++ valued d.space (declarations ds rest))
+abbrev pub declaration_texts : List Declaration → List ℕ → List ℕ
+declaration_texts [] rest = rest
+declaration_texts (d ∷ ds) rest = codes " xmlns:" ++ (d.prefix ++ valued d.space (declaration_texts ds rest))
 
 abbrev pub attributes : List Declaration → List Attribute → List ℕ → List ℕ
 attributes ds [] rest = rest
@@ -74,7 +74,7 @@ element_rest ds name atts empty inside rest = attributes ds atts (ending ds name
 -- an element whose tag declares `own`
 abbrev pub element : List Declaration → List Declaration → Name → List Attribute → Bool → (List ℕ → List ℕ) → List ℕ → List ℕ
 element ds own name atts empty inside rest =
-    codes "<" ++ qualified ds name (declarations own (element_rest ds name atts empty inside rest))
+    codes "<" ++ qualified ds name (declaration_texts own (element_rest ds name atts empty inside rest))
 
 abbrev pub is_end : {m : _} → Row_of-Content m → Bool
 is_end end_of-Content = true
@@ -107,7 +107,7 @@ tree_text ds own t rest = element ds own t.name t.attributes (is_empty t.content
 
 -- the text of a root, where these are the further namespaces of its tree
 abbrev pub root_text : List (List ℕ) → Tree → List ℕ
-root_text further t = tree_text (scope further) (declared further) t []
+root_text further t = tree_text (text_scope further) (declared further) t []
 
 -- the one text of a tree
 abbrev pub one_text : Tree → List ℕ

@@ -1,7 +1,7 @@
 //! Elements and their content, put on a page.
 
 ghost use Rattle.std.specs.Prelude.{◌≡◌, ℕ, List, [], OnOk};
-ghost use Rattle.ba_xml_writer.specs.Namespaces.{declared, scope};
+ghost use Rattle.ba_xml_writer.specs.Namespaces.{declared, text_scope};
 ghost use Rattle.ba_xml_writer.specs.OneText.{ending, attributes, item, items, tree_text, tree_rest, root_text, is_empty};
 
 use crate::pages::Page;
@@ -17,7 +17,7 @@ fn has_none(list: &[Content]) -> bool
 
 #[cycle(elements)]
 fn put_item<P: Page>(page: &mut P, further: &[Space], content: &Content) -> Result<(), P::Refusal>
-    ensures { OnOk result ((rest : List ℕ) → P.after page.new rest ≡ P.after page.old (item (scope further.now) content.now rest)) }
+    ensures { OnOk result ((rest : List ℕ) → P.after page.new rest ≡ P.after page.old (item (text_scope further.now) content.now rest)) }
 {
     match content {
         Content::Text(text) => put_escaped(page, Place::Text, text.as_slice()),
@@ -30,7 +30,7 @@ fn put_item<P: Page>(page: &mut P, further: &[Space], content: &Content) -> Resu
 
 #[cycle(elements)]
 fn put_items<P: Page>(page: &mut P, further: &[Space], list: &[Content]) -> Result<(), P::Refusal>
-    ensures { OnOk result ((rest : List ℕ) → P.after page.new rest ≡ P.after page.old (items (scope further.now) list.now rest)) }
+    ensures { OnOk result ((rest : List ℕ) → P.after page.new rest ≡ P.after page.old (items (text_scope further.now) list.now rest)) }
 {
     for content in list {
         put_item(page, further, content)?;
@@ -41,7 +41,7 @@ fn put_items<P: Page>(page: &mut P, further: &[Space], list: &[Content]) -> Resu
 /// Puts attributes, content and end of an element whose tag is begun.
 #[cycle(elements)]
 fn put_rest<P: Page>(page: &mut P, further: &[Space], tree: &Tree) -> Result<(), P::Refusal>
-    ensures { OnOk result ((rest : List ℕ) → P.after page.new rest ≡ P.after page.old (tree_rest (scope further.now) tree.now rest)) }
+    ensures { OnOk result ((rest : List ℕ) → P.after page.new rest ≡ P.after page.old (tree_rest (text_scope further.now) tree.now rest)) }
 {
     put_attributes(page, further, tree.attributes.as_slice())?;
     if has_none(tree.content.as_slice()) {
@@ -56,7 +56,7 @@ fn put_rest<P: Page>(page: &mut P, further: &[Space], tree: &Tree) -> Result<(),
 
 #[cycle(elements)]
 fn put_element<P: Page>(page: &mut P, further: &[Space], tree: &Tree) -> Result<(), P::Refusal>
-    ensures { OnOk result ((rest : List ℕ) → P.after page.new rest ≡ P.after page.old (tree_text (scope further.now) [] tree.now rest)) }
+    ensures { OnOk result ((rest : List ℕ) → P.after page.new rest ≡ P.after page.old (tree_text (text_scope further.now) [] tree.now rest)) }
 {
     page.put(b"<")?;
     put_name(page, further, &tree.name)?;

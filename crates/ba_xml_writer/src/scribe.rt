@@ -3,8 +3,8 @@
 ghost use Rattle.std.specs.Prelude.{◌≡◌, ℕ, ◌+◌, ◌<◌, ◌≤◌, length, List, [], ◌∷◌, ◌++◌, codes, decimal, OnOk, IfOk, IfSome, IfNone, MatchOption};
 ghost use Rattle.std.specs.Str.{bytes_eq};
 ghost use Rattle.ba_xml_writer.specs.Escapes.{escapes_of, waiting};
-ghost use Rattle.ba_xml_writer.specs.Namespaces.{Declaration, declaration, soap_space, wsa_space, wscoor_space, wsba_space, xml_space, fixed, numbered, declared, scope, xml};
-ghost use Rattle.ba_xml_writer.specs.OneText.{spelled, escaped, prefixed, qualified, valued, declarations, attributes, ending, element, item, items, tree_text, root_text, is_empty, value_escapes};
+ghost use Rattle.ba_xml_writer.specs.Namespaces.{Declaration, declaration, soap_space, wsa_space, wscoor_space, wsba_space, xml_space, fixed, numbered, declared, text_scope, xml};
+ghost use Rattle.ba_xml_writer.specs.OneText.{spelled, escaped, prefixed, qualified, valued, declaration_texts, attributes, ending, element, item, items, tree_text, root_text, is_empty, value_escapes};
 
 use crate::pages::Page;
 use crate::space::Space;
@@ -118,7 +118,7 @@ fn place_of(further: &[Space], space: &[u8]) -> Option<usize>
 
 /// Puts the prefix of a namespace and a colon.
 fn put_prefix<P: Page>(page: &mut P, further: &[Space], space: &[u8]) -> Result<(), P::Refusal>
-    ensures { OnOk result ((rest : List ℕ) → P.after page.new rest ≡ P.after page.old (prefixed (scope further.now) space.now rest)) }
+    ensures { OnOk result ((rest : List ℕ) → P.after page.new rest ≡ P.after page.old (prefixed (text_scope further.now) space.now rest)) }
 {
     if let Some(prefix) = fixed_prefix(space) {
         page.put(prefix)?;
@@ -132,7 +132,7 @@ fn put_prefix<P: Page>(page: &mut P, further: &[Space], space: &[u8]) -> Result<
 }
 
 pub fn put_name<P: Page>(page: &mut P, further: &[Space], name: &Name) -> Result<(), P::Refusal>
-    ensures { OnOk result ((rest : List ℕ) → P.after page.new rest ≡ P.after page.old (qualified (scope further.now) name.now rest)) }
+    ensures { OnOk result ((rest : List ℕ) → P.after page.new rest ≡ P.after page.old (qualified (text_scope further.now) name.now rest)) }
 {
     put_prefix(page, further, name.space.as_slice())?;
     page.put(name.local.as_slice())
@@ -152,7 +152,7 @@ pub fn put_attributes<P: Page>(
     further: &[Space],
     list: &[Attribute],
 ) -> Result<(), P::Refusal>
-    ensures { OnOk result ((rest : List ℕ) → P.after page.new rest ≡ P.after page.old (attributes (scope further.now) list.now rest)) }
+    ensures { OnOk result ((rest : List ℕ) → P.after page.new rest ≡ P.after page.old (attributes (text_scope further.now) list.now rest)) }
 {
     for attribute in list {
         page.put(b" ")?;
@@ -164,7 +164,7 @@ pub fn put_attributes<P: Page>(
 
 /// Puts the declaration of a prefix.
 fn put_declaration<P: Page>(page: &mut P, prefix: &[u8], space: &[u8]) -> Result<(), P::Refusal>
-    ensures { OnOk result ((more : List Declaration) (rest : List ℕ) → P.after page.new (declarations more rest) ≡ P.after page.old (declarations (declaration prefix.now space.now ∷ more) rest)) }
+    ensures { OnOk result ((more : List Declaration) (rest : List ℕ) → P.after page.new (declaration_texts more rest) ≡ P.after page.old (declaration_texts (declaration prefix.now space.now ∷ more) rest)) }
 {
     page.put(b" xmlns:")?;
     page.put(prefix)?;
@@ -172,7 +172,7 @@ fn put_declaration<P: Page>(page: &mut P, prefix: &[u8], space: &[u8]) -> Result
 }
 
 fn put_fixed<P: Page>(page: &mut P) -> Result<(), P::Refusal>
-    ensures { OnOk result ((more : List Declaration) (rest : List ℕ) → P.after page.new (declarations more rest) ≡ P.after page.old (declarations (fixed ++ more) rest)) }
+    ensures { OnOk result ((more : List Declaration) (rest : List ℕ) → P.after page.new (declaration_texts more rest) ≡ P.after page.old (declaration_texts (fixed ++ more) rest)) }
 {
     put_declaration(page, b"soap", SOAP_SPACE)?;
     put_declaration(page, b"wsa", WSA_SPACE)?;
@@ -182,7 +182,7 @@ fn put_fixed<P: Page>(page: &mut P) -> Result<(), P::Refusal>
 }
 
 fn put_numbered<P: Page>(page: &mut P, number: usize, space: &[u8]) -> Result<(), P::Refusal>
-    ensures { OnOk result ((more : List Declaration) (rest : List ℕ) → P.after page.new (declarations more rest) ≡ P.after page.old (declarations (declaration (codes "n" ++ decimal number) space.now ∷ more) rest)) }
+    ensures { OnOk result ((more : List Declaration) (rest : List ℕ) → P.after page.new (declaration_texts more rest) ≡ P.after page.old (declaration_texts (declaration (codes "n" ++ decimal number) space.now ∷ more) rest)) }
 {
     page.put(b" xmlns:")?;
     put_number(page, number)?;
@@ -190,7 +190,7 @@ fn put_numbered<P: Page>(page: &mut P, number: usize, space: &[u8]) -> Result<()
 }
 
 fn put_further<P: Page>(page: &mut P, further: &[Space]) -> Result<(), P::Refusal>
-    ensures { OnOk result ((rest : List ℕ) → P.after page.new rest ≡ P.after page.old (declarations (numbered 1 further.now) rest)) }
+    ensures { OnOk result ((rest : List ℕ) → P.after page.new rest ≡ P.after page.old (declaration_texts (numbered 1 further.now) rest)) }
 {
     for (i, space) in further.iter().enumerate() {
         put_numbered(page, i + 1, space.as_slice())?;
@@ -199,7 +199,7 @@ fn put_further<P: Page>(page: &mut P, further: &[Space]) -> Result<(), P::Refusa
 }
 
 pub fn put_declarations<P: Page>(page: &mut P, further: &[Space]) -> Result<(), P::Refusal>
-    ensures { OnOk result ((rest : List ℕ) → P.after page.new rest ≡ P.after page.old (declarations (declared further.now) rest)) }
+    ensures { OnOk result ((rest : List ℕ) → P.after page.new rest ≡ P.after page.old (declaration_texts (declared further.now) rest)) }
 {
     put_fixed(page)?;
     put_further(page, further)

@@ -14,7 +14,8 @@ use Rattle.ba_http_chunks.specs.declared.chunks.Spot.{Spot}
 use Rattle.ba_http_chunks.specs.declared.chunks.Spot.TheVariants.{Line, Bytes, Feed}
 use Rattle.ba_http_chunks.specs.declared.chunks.Turned.{Turned}
 use Rattle.ba_http_chunks.specs.declared.chunks.Turned.TheVariants.{On, Last}
-use Rattle.ba_http_chunks.specs.Transfers.{size_of, Chunk, print_chunks, bytes_of, AreChunks, IsLastLine, BeginsChunk, Position, in_line}
+use Rattle.ba_http_chunks.specs.Transfers.{size_of, Chunk, print_chunks, carried_bytes, AreChunks, IsLastLine, BeginsChunk, Position}
+use Rattle.ba_http_chunks.specs.Transfers.{in_line}
 use Rattle.ba_http_chunks.specs.Transfers.{in_bytes, in_end, in_trailer, bytes_at, Breaks, Passes}
 
 -- the digits at the beginning of a line
@@ -39,10 +40,10 @@ body_at (in_trailer last trailer) = []
 
 -- how many bytes the body has with the chunk that was begun
 abbrev pub got_at : List Chunk → Position → ℕ
-got_at chunks (in_line line) = length (bytes_of chunks)
-got_at chunks (in_bytes line some) = length (bytes_of chunks) + size_of line
-got_at chunks (in_end line all) = length (bytes_of chunks) + size_of line
-got_at chunks (in_trailer last trailer) = length (bytes_of chunks)
+got_at chunks (in_line line) = length (carried_bytes chunks)
+got_at chunks (in_bytes line some) = length (carried_bytes chunks) + size_of line
+got_at chunks (in_end line all) = length (carried_bytes chunks) + size_of line
+got_at chunks (in_trailer last trailer) = length (carried_bytes chunks)
 
 -- what comes next, after these chunks and there
 abbrev pub IsAt : Spot → List Chunk → Position → Type 0
@@ -60,7 +61,7 @@ pub record Stands (c : Chunks) (fed body : List ℕ) : Type 0 where
   pub is_at : IsAt c.spot chunks at
   pub got : c.got ≡ got_at chunks at
   pub is_fed : fed ≡ print_chunks chunks ++ bytes_at at
-  pub is_body : body ≡ bytes_of chunks ++ body_at at
+  pub is_body : body ≡ carried_bytes chunks ++ body_at at
   pub count : c.count ≡ length fed
 
 -- so many bytes of a transfer have come, up to and with the last chunk's line, and this body
@@ -70,7 +71,7 @@ pub record IsBeforeTrailer (count : ℕ) (fed body : List ℕ) : Type 0 where
   pub are : AreChunks chunks
   pub is_last : IsLastLine last
   pub is_fed : fed ≡ print_chunks chunks ++ print_size_line last
-  pub is_body : body ≡ bytes_of chunks
+  pub is_body : body ≡ carried_bytes chunks
   pub is_count : count ≡ length fed
 
 -- what one more byte makes of a transfer

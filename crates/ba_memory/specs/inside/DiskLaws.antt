@@ -8,7 +8,8 @@ use Rattle.std.proofs.lemmas.Bool.Decides.{nat_tests}
 use Rattle.std.proofs.lemmas.List.{append-nil, drop_at, take_all, drop_all, length-replicate, length-take, length-take-le, drop-drop}
 use Rattle.ba_ports.specs.Disk.{written_at, Torn, CutShort, Lists, is_counted, if_counted, counted, Armament, KeepsContent}
 use Rattle.ba_memory.specs.DiskValue.{MediumValue, DiskValue, course, goes_wrong, put, imaged, all_imaged, bytes_of, LeftOfOne, LeftOf}
-use Rattle.ba_memory.specs.DiskValue.{MayBeLeft, after, after_all, step, fails, IsLater, MayHaveBeenLeft, Leads, Drives, told, rearm}
+use Rattle.ba_memory.specs.DiskValue.{MayBeLeft, after, after_all, step, fails, IsLater, MayHaveBeenLeft, CallsLead, Drives, told_calls}
+use Rattle.ba_memory.specs.DiskValue.{rearm}
 use Rattle.ba_memory.specs.declared.changes.Change.{Change}
 use Rattle.ba_memory.specs.declared.changes.Change.TheVariants as change
 use Rattle.ba_ports.specs.declared.images.Image.{Image}
@@ -167,11 +168,11 @@ left_widened a b c d left first second third some =
 
 -- Calls that lead on
 
-pub leads_on : (first second : List Call) (a b c : DiskValue) → Leads a first b → Leads b second c → Leads a (first ++ second) c
-leads_on [] second a b c before behind = subst (λ (d : DiskValue). Leads d second c) before behind
+pub leads_on : (first second : List Call) (a b c : DiskValue) → CallsLead a first b → CallsLead b second c → CallsLead a (first ++ second) c
+leads_on [] second a b c before behind = subst (λ (d : DiskValue). CallsLead d second c) before behind
 leads_on (call ∷ first) second a b c before behind = (before.0, leads_on first second (step call.request a) b c before.1 behind)
 
-pub stays_fed : (calls : List Call) (a b : DiskValue) → Leads a calls b → b.starved ≡ a.starved
+pub stays_fed : (calls : List Call) (a b : DiskValue) → CallsLead a calls b → b.starved ≡ a.starved
 stays_fed [] a b leads = ap (λ (d : DiskValue). d.starved) leads
 stays_fed (call ∷ calls) a b leads = stays_fed calls (step call.request a) b leads.1
 
@@ -194,7 +195,7 @@ one_more request.Sync failed rest m is =
     ap (λ (f : Bool). m.calls ++ record { request = request.Sync; failed = f } ∷ rest) is
     ∙ sym (append_assoc m.calls (record { request = request.Sync; failed = goes_wrong (course m) } ∷ []) rest)
 
-leads_list : (calls : List Call) (a b : DiskValue) → Leads a calls b → b.medium.calls ≡ a.medium.calls ++ counted calls
+leads_list : (calls : List Call) (a b : DiskValue) → CallsLead a calls b → b.medium.calls ≡ a.medium.calls ++ counted calls
 leads_list [] a b leads = ap (λ (d : DiskValue). d.medium.calls) leads ∙ sym (append-nil a.medium.calls)
 leads_list (call ∷ calls) a b leads = leads_list calls (step call.request a) b leads.1
     ∙ sym (one_more call.request call.failed (counted calls) a.medium leads.0)
@@ -205,14 +206,14 @@ lists_by before true xs ys zs told = tt
 lists_by true false xs ys zs told = let fed = (told refl).0 in cc
 lists_by false false xs ys zs told = (told refl).1
 
-pub lists : (calls : List Call) (a b : DiskValue) → Drives a calls b → Lists (told a) (told b) (counted calls)
+pub lists : (calls : List Call) (a b : DiskValue) → Drives a calls b → Lists (told_calls a) (told_calls b) (counted calls)
 lists calls a b drives = lists_by a.starved b.starved a.medium.calls b.medium.calls (counted calls)
     (λ fed. (sym (stays_fed calls a b (drives fed)) ∙ fed, leads_list calls a b (drives fed)))
 
 -- Arming
 
 pub rearmed_keeps : (armament : Armament) (a : DiskValue)
-    → KeepsContent (λ (d : DiskValue). true) (λ (d : DiskValue). bytes_of d.medium) (λ (d : DiskValue). MayBeLeft d.medium) told
+    → KeepsContent (λ (d : DiskValue). true) (λ (d : DiskValue). bytes_of d.medium) (λ (d : DiskValue). MayBeLeft d.medium) told_calls
     (λ (d : DiskValue). d.faults) a (rearm armament a)
 rearmed_keeps armament a =
     record {
@@ -226,8 +227,8 @@ rearmed_keeps armament a =
     }
 
 pub keeps_rearmed : (armament : Armament) (a b : DiskValue) → b ≡ rearm armament a
-    → KeepsContent (λ (d : DiskValue). true) (λ (d : DiskValue). bytes_of d.medium) (λ (d : DiskValue). MayBeLeft d.medium) told
+    → KeepsContent (λ (d : DiskValue). true) (λ (d : DiskValue). bytes_of d.medium) (λ (d : DiskValue). MayBeLeft d.medium) told_calls
     (λ (d : DiskValue). d.faults) a b
 keeps_rearmed armament a b same =
     subst (λ (d : DiskValue). KeepsContent (λ (d : DiskValue). true) (λ (d : DiskValue). bytes_of d.medium)
-    (λ (d : DiskValue). MayBeLeft d.medium) told (λ (d : DiskValue). d.faults) a d) (sym same) (rearmed_keeps armament a)
+    (λ (d : DiskValue). MayBeLeft d.medium) told_calls (λ (d : DiskValue). d.faults) a d) (sym same) (rearmed_keeps armament a)

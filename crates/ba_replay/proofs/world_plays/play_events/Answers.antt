@@ -1,8 +1,9 @@
 use Rattle.std.proofs.Common.{◌+◌, ◌++◌, ◌∷◌, [], ℕ, List, Err, None, arith, subst, sym, map, drop, get_or}
 use Rattle.std.proofs.lemmas.List.{drop_all}
 use Rattle.ba_core.specs.declared.protocols.Kind.TheVariants.{Atomic}
+use Rattle.ba_events.specs.Events.{NumberedEvent}
 use Rattle.ba_events.specs.declared.events.Event.TheVariants as event
-use Rattle.ba_play.specs.Shows.{NumberedEvent, event_line, story, story_from}
+use Rattle.ba_play.specs.Shows.{event_line, story, story_from}
 use Rattle.ba_replay.proofs.Shown.{broken_at, held_start, shown_more}
 use Rattle.ba_replay.proofs.Stories.{PlayedTo, all_played, all_shown, events_at, left_led, left_shown, none_played, plays_on}
 use Rattle.ba_replay.specs.declared.world_plays.Played.{Played}

@@ -3,7 +3,7 @@ use Rattle.std.proofs.Common.{◌∙◌, sym, ap, subst, rules, length}
 use Rattle.std.proofs.lemmas.Fn.{always_returns_same}
 use Rattle.ba_xml_names.proofs.Rows.{searched, within}
 use Rattle.ba_xml_names.proofs.spaces.spot_of.Goals as goal
-use Rattle.ba_xml_names.specs.Namespaces.{placed_at, IsWithin}
+use Rattle.ba_xml_names.specs.Namespaces.{placed_at, IsSpotWithin}
 
 pub returns : goal.returns
 returns c =
@@ -14,5 +14,5 @@ returns c =
     (always_returns_same _ _ _ (λ a r f called. search rules)) in
     record {
       spot = searched row rows _ c.requires facts.bound by_name ∙ ap (λ s. placed_at s row rows) (sym c.gap.ensures);
-      within = subst (λ s. IsWithin s (length rows)) (sym c.gap.ensures) (within rows _ facts.bound);
+      within = subst (λ s. IsSpotWithin s (length rows)) (sym c.gap.ensures) (within rows _ facts.bound);
     }
