@@ -1,17 +1,14 @@
 -- The letters of a node can be posted, where its base leaves room for the paths of its objects; for the clause `postable`.
-use Rattle.std.proofs.Common.{◌≡◌, ◌≢◌, inr, ℕ, suc, zero, ◌+◌, ◌/◌, ◌%◌, ◌^◌, ◌<◌, ◌≤◌, Bool, true, false, ◌&&◌, List, [], ◌∷◌, ◌++◌}
+use Rattle.std.proofs.Common.{◌≡◌, ◌≢◌, inr, ℕ, ◌+◌, ◌/◌, ◌≤◌, true, false, List, ◌++◌}
 use Rattle.std.proofs.Common.{length, codes, Option, None, Some, Result, Ok, Err, IfOk, IfSome, refl, sym, ap, ◌∙◌, subst, arith}
 use Rattle.std.proofs.Common.{append_assoc, length-append}
-use Rattle.std.specs.List.{list_all}
-use Rattle.std.proofs.lemmas.Bool.Decides.{nat_tests}
 use Rattle.std.proofs.lemmas.List.{append-nil}
-use Rattle.std.proofs.lemmas.List.Folds.{list_all-append}
 use Rattle.ba_core.specs.declared.identifiers.Id.{Id}
 use Rattle.ba_core.specs.declared.notices.Notice.{Notice}
 use Rattle.ba_core.specs.declared.notices.Notice.TheVariants as notice
 use Rattle.ba_core.specs.declared.states.StateName.TheVariants as shown
 use Rattle.ba_message.proofs.Dialed.{tells_dialable}
-use Rattle.ba_message.specs.Addresses.{IsDialable, is_path_byte}
+use Rattle.ba_message.specs.Addresses.{IsDialable}
 use Rattle.ba_message.specs.Letters.{IsOwnEndpoint, IsPostable, IsPostableMessage}
 use Rattle.ba_message.specs.declared.addresses.TheConstants.{MOST_ADDRESS_BYTES}
 use Rattle.ba_message.specs.declared.messages.Letter.{Letter}
@@ -20,52 +17,11 @@ use Rattle.ba_message.specs.declared.messages.Message.TheVariants as message
 use Rattle.ba_node.specs.Posting.{LeavesRoom}
 use Rattle.ba_node.specs.declared.faults.NodeFault.{NodeFault}
 use Rattle.ba_record.specs.Endpoints.{IsBase}
-use Rattle.ba_steps.specs.Addresses.{hex_digit, hex_digits, hyphenated, participant_of}
+use Rattle.ba_steps.proofs.PathBytes.{joined_passes, text_passes}
+use Rattle.ba_steps.specs.Addresses.{hyphenated, participant_of}
 use Rattle.ba_steps.specs.Letters.{IsLetterOf, IsOwnMessage, is_known_notice}
 use Rattle.ba_steps.specs.Node.{NodeState}
 use Rattle.ba_steps.specs.declared.answers.Ticked.{Ticked}
-
--- ---- the text of an identifier may stand in a path
-
-both_pass : (a b : Bool) → a ≡ true → b ≡ true → (a && b) ≡ true
-both_pass true true h k = refl
-both_pass true false h k = k
-both_pass false b h k = h
-
-digit_passes : (n : ℕ) → n < 16 → is_path_byte (hex_digit n) ≡ true
-digit_passes n small = grind (arith, nat_tests)
-
-joined_passes : (xs ys : List ℕ) → list_all is_path_byte xs ≡ true → list_all is_path_byte ys ≡ true
-    → list_all is_path_byte (xs ++ ys) ≡ true
-joined_passes xs ys h k =
-    list_all-append is_path_byte xs ys ∙ both_pass (list_all is_path_byte xs) (list_all is_path_byte ys) h k
-
-digits_pass : (count n : ℕ) → list_all is_path_byte (hex_digits count n) ≡ true
-digits_pass zero n = refl
-digits_pass (suc count) n =
-    joined_passes (hex_digits count (n / 16)) (hex_digit (n % 16) ∷ []) (digits_pass count (n / 16))
-    (both_pass (is_path_byte (hex_digit (n % 16))) true (digit_passes (n % 16) (omega arith)) refl)
-
-digits_after : (xs ys : List ℕ) → list_all is_path_byte xs ≡ true → list_all is_path_byte ys ≡ true
-    → list_all is_path_byte (xs ++ (codes "-" ++ ys)) ≡ true
-digits_after xs ys h k = joined_passes xs (codes "-" ++ ys) h k
-
-abbrev fourth_part : ℕ → List ℕ
-fourth_part n = hex_digits 4 (n / 2 ^ 48) ++ (codes "-" ++ hex_digits 12 n)
-
-abbrev third_part : ℕ → List ℕ
-third_part n = hex_digits 4 (n / 2 ^ 64) ++ (codes "-" ++ fourth_part n)
-
-abbrev second_part : ℕ → List ℕ
-second_part n = hex_digits 4 (n / 2 ^ 80) ++ (codes "-" ++ third_part n)
-
-text_passes : (n : ℕ) → list_all is_path_byte (hyphenated n) ≡ true
-unfolding hyphenated
-text_passes n =
-    digits_after (hex_digits 8 (n / 2 ^ 96)) (second_part n) (digits_pass 8 (n / 2 ^ 96))
-    (digits_after (hex_digits 4 (n / 2 ^ 80)) (third_part n) (digits_pass 4 (n / 2 ^ 80))
-    (digits_after (hex_digits 4 (n / 2 ^ 64)) (fourth_part n) (digits_pass 4 (n / 2 ^ 64))
-    (digits_after (hex_digits 4 (n / 2 ^ 48)) (hex_digits 12 n) (digits_pass 4 (n / 2 ^ 48)) (digits_pass 12 n))))
 
 -- ---- the endpoint of a participant
 

@@ -12,8 +12,8 @@ ghost use Rattle.ba_steps.specs.Node.{new_node};
 
 use crate::faults::LoadFault;
 use ba_core::{List, Octets};
+use ba_enacting::enact;
 use ba_objects::Objects;
-use ba_plans::enact;
 use ba_record::Record;
 use std::alloc::Global;
 use std::collections::VecDeque;

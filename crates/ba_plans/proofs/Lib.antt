@@ -1,6 +1,5 @@
 pub mod Acted
 pub mod Asked
-pub mod Enacted
 pub mod Made
 pub mod Noticed
 pub mod Placed

@@ -1,4 +1,3 @@
-pub mod Enacting
 pub mod Joining
 pub mod Registering
 pub mod Ticking

@@ -123,7 +123,7 @@ fn make_scope(
 }
 
 /// The identifier of the object that is made next, or of the one after it.
-pub(crate) fn next_id(node: &Objects, further: u64) -> Id
+pub fn next_id(node: &Objects, further: u64) -> Id
     requires spare { HasSpareCounters node.now.node }
     requires few { further ≤ 2 }
     ensures { result ≡ next_id node.now.node further }

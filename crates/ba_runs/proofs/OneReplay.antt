@@ -33,7 +33,7 @@ last_step (k ∷ more) n r after known replays = absurd known
 
 -- ---- a node that is the one replay of its records stays so
 
-abbrev IsOnly : List Record → NodeState → Type 0
+abbrev pub IsOnly : List Record → NodeState → Type 0
 IsOnly records n = (m : NodeState) → Replays records m → m ≡ n
 
 only_goes_on : (records : List Record) (n : NodeState) (e : Event) → NodeFits n → Replays records n → IsOnly records n
@@ -49,7 +49,7 @@ only_goes_on records n e fits replays only = by_written (change n e).written ref
         let its : IsStepOf n r (change n e).after = record { event = e; keeps = is; leads = refl } in
         some_is m (change n e).after (sym (after_of n r m fits step) ∙ after_of n r (change n e).after fits its)
 
-only_after : (records : List Record) (n : NodeState) (o : Occasion) → NodeFits n → Replays records n → IsOnly records n
+pub only_after : (records : List Record) (n : NodeState) (o : Occasion) → NodeFits n → Replays records n → IsOnly records n
     → IsOnly (records ++ option_to_list (effect n o).written) (effect n o).after
 only_after records n (own now i) = only_goes_on records n (given now i)
 only_after records n (delivers now mail i) = only_goes_on records n (given now i)

@@ -1,5 +1,5 @@
 -- Header blocks one after another.
-use Rattle.std.proofs.Common.{◌≡◌, ◌+◌, Bool, Some, None, cond, not, nat_lt, List, [], ◌∷◌, ◌++◌, map, refl, ap}
+use Rattle.std.proofs.Common.{◌≡◌, ◌+◌, Bool, true, false, ◌&&◌, Some, None, cond, not, nat_lt, List, [], ◌∷◌, ◌++◌, map, refl, ap}
 use Rattle.std.proofs.lemmas.List.{length-map}
 use Rattle.std.specs.List.{position, prefix_len}
 use Rattle.ba_tree.specs.declared.trees.Tree.{Tree}
@@ -24,3 +24,9 @@ first_invalid_step before b more = refl
 pub same_blocks : (d : Dialect) (xs ys es : List Tree) → xs ≡ ys → (r : Result Envelope SoapFault) → IsSoapAnswer (answer_by_body d xs es) r
     → IsSoapAnswer (answer_by_body d ys es) r
 same_blocks d xs ys es e r h = subst (λ blocks. IsSoapAnswer (answer_by_body d blocks es) r) e h
+
+pub in_either_order : (a b : Bool) → (a && b) ≡ (b && a)
+in_either_order true true = refl
+in_either_order true false = refl
+in_either_order false true = refl
+in_either_order false false = refl

@@ -118,10 +118,12 @@ impl Dialect for Soap11 {
     }
 }
 
+/// True if the name has this namespace and this local part. The local part is looked at first: it is short, and most often tells.
+#[tactic(auto, using(crate::proofs::BlockLaws::in_either_order))]
 pub fn is_called(name: &Name, space: &[u8], local: &[u8]) -> bool
     ensures { result ≡ is_called space.now local.now name.now }
 {
-    name.space.as_slice() == space && name.local.as_slice() == local
+    name.local.as_slice() == local && name.space.as_slice() == space
 }
 
 /// The value of the first attribute of this name.

@@ -10,6 +10,7 @@ pub mod Members
 pub mod NodeKept
 pub mod Objects
 pub mod Own
+pub mod PathBytes
 pub mod Places
 pub mod RecordsGive
 pub mod Reenacted

@@ -1,7 +1,7 @@
 //! What envelopes and their texts mean: reading.
 ghost use Rattle.std.specs.Prelude.{◌≡◌, ◌≢◌, ℕ, IfOk, IfErr, Ok, Err, Some, None, find, map};
 ghost use Rattle.std.specs.List.{list_any};
-ghost use Rattle.ba_soap.specs.Envelopes.{soap11, is_called};
+ghost use Rattle.ba_soap.specs.Envelopes.{soap11};
 ghost use Rattle.ba_wire.specs.Actions.{body_name, body_of, body_space, bodies, fault_actions};
 ghost use Rattle.ba_wire.specs.Bodies.{body_look, message_of};
 ghost use Rattle.ba_tree.specs.declared.trees.Tree.{Tree};
@@ -15,7 +15,7 @@ use crate::routes::Route;
 use ba_core::{Memory, Notice};
 use ba_message::Message;
 use ba_shape::{Misfit, Why};
-use ba_soap::{Envelope, Header, ReplyTo, SoapFault, read_envelope};
+use ba_soap::{Envelope, Header, ReplyTo, SoapFault, is_called, read_envelope};
 use ba_tree::{SOAP_SPACE, Tree};
 use ba_xml::{XmlFault, read};
 use std::alloc::Global;
@@ -131,13 +131,13 @@ fn which_body(envelope: &Envelope) -> Result<Body, WireFault>
     ensures { result ≡ which_body soap11 envelope.now }
 {
     let soap = SOAP_SPACE;
-    if is_called(&envelope.body, soap, b"Fault".as_slice()) {
+    if is_called(&envelope.body.name, soap, b"Fault".as_slice()) {
         return Ok(Body::Fault);
     }
     match Body::of(envelope.action.as_slice()) {
         None => Err(unknown(envelope.action.as_slice())),
         Some(body) => {
-            if is_called(&envelope.body, body.space(), body.name()) {
+            if is_called(&envelope.body.name, body.space(), body.name()) {
                 Ok(body)
             } else {
                 Err(WireFault::BodyMismatch(0))
@@ -158,12 +158,6 @@ fn unknown(action: &[u8]) -> WireFault
     } else {
         WireFault::ActionNotSupported
     }
-}
-
-fn is_called(tree: &Tree, space: &[u8], local: &[u8]) -> bool
-    ensures { result ≡ is_called space.now local.now tree.now.name }
-{
-    tree.name.space.as_slice() == space && tree.name.local.as_slice() == local
 }
 
 fn reply_refusal(body: Body, envelope: &Envelope) -> Option<WireFault>

@@ -4,7 +4,7 @@ use Rattle.std.proofs.Common.{subst, ◌∙◌, inl, inr, arith}
 use Rattle.std.proofs.Common.{append_assoc, length-append}
 use Rattle.std.proofs.lemmas.List.{drop-map}
 use Rattle.ba_tree.specs.declared.trees.Content.{Content}
-use Rattle.ba_xml_places.proofs.Headings.{LeadsHeading, LeadsQuote}
+use Rattle.ba_xml_reader.proofs.SoundDeclaring.{LeadsHeading, LeadsQuote}
 use Rattle.ba_xml_places.proofs.Live.{ArePlain, PlainLevels, LiveHeading}
 use Rattle.ba_xml_places.proofs.LiveSteps.{plain_joined}
 use Rattle.ba_xml_places.proofs.Pieces.{Rest, Around}

@@ -1,7 +1,7 @@
 -- What may follow in each state of the machine up to the text's end, whatever prefixes mean and however large the text is.
 use Rattle.std.proofs.Common.{◌≡◌, ℕ, Bool, List, ◌∷◌, ◌++◌, [], drop, codes}
 use Rattle.ba_xml_places.proofs.Elements.{Closes, BehindTagName}
-use Rattle.ba_xml_places.proofs.Headings.{LeadsHeading}
+use Rattle.ba_xml_reader.proofs.SoundDeclaring.{LeadsHeading}
 use Rattle.ba_xml_places.proofs.Pieces.{Rest, Here, LeadsReference}
 use Rattle.ba_xml_places.proofs.Tags.{LeadsInTag, LeadsValue, LeadsValueReference, LeadsQuote, LeadsEquals, BehindName}
 use Rattle.ba_xml_reader.proofs.SoundComments.{LeadsComment}

@@ -9,7 +9,6 @@ pub mod Elements
 pub mod Ends
 pub mod Exact
 pub mod Examples
-pub mod Headings
 pub mod Leads
 pub mod Least
 pub mod LimitSteps

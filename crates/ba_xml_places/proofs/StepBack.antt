@@ -5,7 +5,7 @@ use Rattle.ba_tree.specs.declared.trees.Content.{Content}
 use Rattle.ba_tree.specs.declared.trees.Content.TheVariants.{Child}
 use Rattle.ba_xml_places.proofs.ContentBack.{comment_back, section_back, bracketed_back, reference_back, inside_back}
 use Rattle.ba_xml_places.proofs.Elements.{Stands, tag_stands}
-use Rattle.ba_xml_places.proofs.Headings.{HeadingGoes, heading_back}
+use Rattle.ba_xml_reader.proofs.SoundDeclaring.{HeadingGoes, heading_back}
 use Rattle.ba_xml_places.proofs.Leads.{Headed, IsBegun, LeadsEnd, Leads, Goes}
 use Rattle.ba_xml_places.proofs.Live.{LiveMode}
 use Rattle.ba_xml_places.proofs.Pieces.{Here, Outside, comment_follows, space_follows, section_follows, end_follows, element_behind}

@@ -39,7 +39,7 @@ use Rattle.ba_xml_words.specs.declared.words.Progress.TheVariants as progress
 -- ---- what an item says
 
 -- before its first byte "yes" may still turn out to be "no"
-abbrev MayBe : Setting → ℕ → Setting → Type 0
+abbrev pub MayBe : Setting → ℕ → Setting → Type 0
 MayBe s count told = (told ≡ s) ⊎ ((s ≡ setting.Yes) × (count ≡ 0) × (told ≡ setting.No))
 
 may_at_first : (s : Setting) (count b : ℕ) → count ≡ 0 → MayBe s count (setting_at_first s b)
@@ -116,25 +116,25 @@ still s told count more e (inr m) = absurd (no e m.1)
 
 module _ (After : List ℕ → Type 0) where
   -- what may follow the quote behind an item
-  abbrev Behind : Item → List ℕ → Type 0
+  abbrev pub Behind : Item → List ℕ → Type 0
   Behind i rest = BehindItem After i false rest
 
   -- the rest of "xml", and the version's item
-  abbrev LeadsTarget : ℕ → List ℕ → Type 0
+  abbrev pub LeadsTarget : ℕ → List ℕ → Type 0
   LeadsTarget count bs = (r : List ℕ) × (bs ≡ drop count (codes "xml") ++ r)
       × ItemThen After item.Version (BehindItem After item.Version false) false r
 
   -- from white space behind "=" on
-  abbrev LeadsQuote : Item → List ℕ → Type 0
+  abbrev pub LeadsQuote : Item → List ℕ → Type 0
   LeadsQuote i bs = (right : List ℕ) × (quote : ℕ) × (value : List ℕ) × (rest : List ℕ) × IsWhite right × IsQuote quote × Says i value
       × (bs ≡ right ++ quote ∷ (value ++ quote ∷ rest)) × Behind i rest
 
   -- the rest of what is said, and the quote
-  abbrev LeadsSaid : Item → ℕ → Setting → ℕ → List ℕ → Type 0
+  abbrev pub LeadsSaid : Item → ℕ → Setting → ℕ → List ℕ → Type 0
   LeadsSaid i quote s count bs = (told : Setting) × (value : List ℕ) × (rest : List ℕ) × MayBe s count told × SaysLeft told count value
       × (bs ≡ value ++ quote ∷ rest) × Behind i rest
 
-  abbrev LeadsHeading : Heading → List ℕ → Type 0
+  abbrev pub LeadsHeading : Heading → List ℕ → Type 0
   LeadsHeading (heading'.Target count) bs = LeadsTarget count bs
   LeadsHeading (heading'.Blank spaced) bs = ItemThen After item.Version (BehindItem After item.Version false) spaced bs
   LeadsHeading (heading'.Behind i spaced) bs = BehindItem After i spaced bs
@@ -145,7 +145,7 @@ module _ (After : List ℕ → Type 0) where
   LeadsHeading (heading'.SaidAll i quote) bs = (rest : List ℕ) × (bs ≡ quote ∷ rest) × Behind i rest
   LeadsHeading heading'.Close bs = (rest : List ℕ) × (bs ≡ 62 ∷ rest) × After rest
 
-  abbrev HeadingGoes : Declared → List ℕ → Type 0
+  abbrev pub HeadingGoes : Declared → List ℕ → Type 0
   HeadingGoes declared'.Wrong bs = ⊥
   HeadingGoes (declared'.On h) bs = LeadsHeading h bs
   HeadingGoes declared'.Whole bs = After bs
@@ -258,7 +258,7 @@ module _ (After : List ℕ → Type 0) where
   closed_back b bs class.Greater m g = (bs, ap (λ x. x ∷ bs) m, g)
   closed_back b bs _ m g = absurd g
 
-  heading_back : (h : Heading) (b : ℕ) (bs : List ℕ) → HeadingGoes (heading_after h b (class_of b)) bs → LeadsHeading h (b ∷ bs)
+  pub heading_back : (h : Heading) (b : ℕ) (bs : List ℕ) → HeadingGoes (heading_after h b (class_of b)) bs → LeadsHeading h (b ∷ bs)
   unfolding heading_after
   heading_back (heading'.Target count) b bs g =
       target_from count b bs (reached_at (codes "xml") count b) (word_left (codes "xml") count b) g

@@ -1,6 +1,6 @@
-use Rattle.ba_plans.proofs.Enacted.{fits_again}
-use Rattle.ba_plans.specs.inside.Enacting.{told_event}
-use Rattle.ba_plans.proofs.enacting.enact.Goals as goal
+use Rattle.ba_enacting.proofs.Enacted.{fits_again}
+use Rattle.ba_enacting.specs.inside.Enacting.{told_event}
+use Rattle.ba_enacting.proofs.enacting.enact.Goals as goal
 
 pub apply-requires-clause-fits : goal.apply-requires-clause-fits
 apply-requires-clause-fits c fits =
