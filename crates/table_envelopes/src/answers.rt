@@ -3,9 +3,6 @@ ghost use Rattle.std.specs.Prelude.{IsTrue};
 ghost use Rattle.ba_wire.specs.Envelopes.{HasEnvelope, is_known};
 
 use crate::rows::envelope_bytes;
-use crate::shown::{
-    put_bytes, put_context, put_endpoint, put_expiry, put_kind, put_named, put_trees,
-};
 use ba_core::{Kind, List, Notice, Protocol, name_of};
 use ba_message::{Context, Message};
 use ba_soap::{Header, SoapFault};
@@ -13,6 +10,9 @@ use ba_tree::Tree;
 use ba_wire::{Decoded, Route, WireFault, decode, envelope_tree, is_known};
 use ba_xml::{writable, write};
 use std::alloc::{AllocError, Global};
+use table_trees::{
+    put_bytes, put_context, put_endpoint, put_expiry, put_kind, put_named, put_trees,
+};
 
 /// The answer to a row.
 pub fn answer(alloc: Global, row: &str) -> Result<String, AllocError> {

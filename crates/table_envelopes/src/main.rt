@@ -25,7 +25,6 @@
 
 mod answers;
 mod rows;
-mod shown;
 
 use std::io;
 

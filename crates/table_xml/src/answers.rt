@@ -1,13 +1,13 @@
 //! The answers to rows.
 
 use crate::rows::{Form, form_of};
-use crate::shown::{put_bytes, put_fault, put_tree};
-use crate::trees::tree_of;
+use crate::shown::put_fault;
 use ba_core::List;
 use ba_tree::Tree;
 use ba_xml::{Reason, XmlFault, read, writable, write};
 use std::alloc::{AllocError, Global};
 use table_rows::bytes_of;
+use table_trees::{put_bytes, put_tree, shown_tree};
 
 /// What stands before the one text where that is put.
 const BEFORE: &[u8] = b"<!-- before -->";
@@ -60,20 +60,6 @@ fn put_shown_tree(alloc: Global, shown: &[u8], out: &mut String) -> Result<(), A
         Some(tree) => put_written(alloc, &tree, Form::Size, out),
         None => out.push_str("no tree"),
     }
-}
-
-/// The tree that these bytes show, if it is shown by exactly them again.
-fn shown_tree(alloc: Global, shown: &[u8]) -> Result<Option<Tree>, AllocError> {
-    let Ok(text) = str::from_utf8(shown) else {
-        return Ok(None);
-    };
-    let Some(tree) = tree_of(alloc, text)? else {
-        return Ok(None);
-    };
-    let mut again = String::new(alloc);
-    put_tree(&tree, &mut again)?;
-    let bytes = bytes_of(alloc, again.as_str())?;
-    Ok((bytes.as_slice() == shown).then_some(tree))
 }
 
 /// Puts what is read of a text, in the way of the row's form.

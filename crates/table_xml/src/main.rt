@@ -21,7 +21,6 @@
 mod answers;
 mod rows;
 mod shown;
-mod trees;
 
 use std::io;
 
