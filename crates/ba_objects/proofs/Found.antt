@@ -1,13 +1,12 @@
 -- What a look-up by places finds stands there; for the look-ups of scopes, ends and participants.
-use Rattle.std.proofs.Common.{◌≡◌, ℕ, Bool, true, false, List, [], ◌∷◌, Option, None, Some, IsTrue, is_some, position, slice_get, refl, sym}
-use Rattle.std.proofs.Common.{ap, ◌∙◌, subst, true≢false, if◌then◌else◌}
+use Rattle.std.proofs.Common.{◌≡◌, ℕ, Bool, true, false, List, [], ◌∷◌, Option, None, Some, IsTrue, is_some, slice_get, refl, sym, ap, ◌∙◌, subst, true≢false, if◌then◌else◌}
 use Rattle.std.proofs.lemmas.Bool.{and_parts}
 use Rattle.std.specs.List.{find}
 use Rattle.ba_core.specs.PartRows.{is_part_state}
 use Rattle.ba_core.specs.declared.identifiers.Id.{Id}
 use Rattle.ba_objects.specs.Finds.{FindsEnd, FindsLone, FindsScope, FindsUp, end_at}
 use Rattle.ba_scope.proofs.Owned.{own_states}
-use Rattle.ba_ends.proofs.Places.{found_passes, none_found, place_found}
+use Rattle.ba_ends.proofs.Places.{found_passes}
 use Rattle.ba_ends.specs.Ends.{end_with_id, has_own_state, same_id}
 use Rattle.ba_ends.specs.Parts.{part_fits}
 use Rattle.ba_scope.specs.Fits.{ScopeFits, up_fits}
@@ -18,20 +17,17 @@ use Rattle.ba_steps.proofs.Members.{all_among, same_id_is}
 use Rattle.ba_steps.proofs.Objects.{lone_fits, scope_fits}
 use Rattle.ba_steps.proofs.Places.{end_found, first_is, scope_found}
 use Rattle.ba_steps.specs.Fits.{NodeFits}
-use Rattle.ba_steps.specs.Node.{Among, EndPlace, NodeState, PartPlace, end_place, first_end, first_up, lone, nowhere, part_place}
-use Rattle.ba_steps.specs.Node.{scope_with_id, upward}
+use Rattle.ba_steps.specs.Node.{Among, EndPlace, NodeState, PartPlace, end_place, first_end, first_up, lone, nowhere, part_place, scope_with_id, upward}
 
 -- ---- a scope
 
 pub scope_at : (n : NodeState) (id : Id) (place : ℕ) (s : ScopeState) → NodeFits n
-    → position (λ (x : ScopeState). same_id x.id id) n.scopes ≡ Some place → slice_get n.scopes place ≡ Some s → FindsScope n id place s
+    → find (λ (x : ScopeState). same_id x.id id) n.scopes ≡ slice_get n.scopes place → slice_get n.scopes place ≡ Some s
+    → FindsScope n id place s
 scope_at n id place s fits placed at =
-    let found : scope_with_id n id ≡ Some s = place_found (λ (x : ScopeState). same_id x.id id) n.scopes place placed ∙ at in
+    let found : scope_with_id n id ≡ Some s = placed ∙ at in
     let stands = scope_found n id s found in
     record { node = fits; found = found; at = at; is = stands.1; fits = scope_fits n s fits stands.0 }
-
-pub no_scope : (n : NodeState) (id : Id) → position (λ (x : ScopeState). same_id x.id id) n.scopes ≡ None → scope_with_id n id ≡ None
-no_scope n id none = none_found (λ (x : ScopeState). same_id x.id id) n.scopes none
 
 -- ---- an end
 
@@ -67,10 +63,10 @@ own_state : (s : ScopeState) (e : End) → ScopeFits s → Among s.ends e → Is
 own_state s e fits among = all_among (λ (x : End). IsTrue (has_own_state x)) s.ends e (own_states s fits) among
 
 pub end_placed : (n : NodeState) (id : Id) (place : ℕ) (s : ScopeState) (e : End) → NodeFits n
-    → position (has_end id) n.scopes ≡ Some place → slice_get n.scopes place ≡ Some s → end_with_id s.ends id ≡ Some e
+    → find (has_end id) n.scopes ≡ slice_get n.scopes place → slice_get n.scopes place ≡ Some s → end_with_id s.ends id ≡ Some e
     → FindsEnd n id place s e
 end_placed n id place s e fits placed at found =
-    let first : find (has_end id) n.scopes ≡ Some s = place_found (has_end id) n.scopes place placed ∙ at in
+    let first : find (has_end id) n.scopes ≡ Some s = placed ∙ at in
     let stands = end_found n id (end_at s e) (first_of id n.scopes s e first found) in
     record {
       node = fits;
@@ -81,14 +77,14 @@ end_placed n id place s e fits placed at found =
       own = own_state s e (scope_fits n s fits stands.scope) stands.end;
     }
 
-pub no_end : (n : NodeState) (id : Id) → position (has_end id) n.scopes ≡ None → end_place n id ≡ None
-no_end n id none = none_of id n.scopes (none_found (has_end id) n.scopes none)
+pub no_end : (n : NodeState) (id : Id) → find (has_end id) n.scopes ≡ None → end_place n id ≡ None
+no_end n id none = none_of id n.scopes none
 
 -- the scope at the place has the end
-pub end_is_there : (n : NodeState) (id : Id) (place : ℕ) (s : ScopeState) → position (has_end id) n.scopes ≡ Some place
+pub end_is_there : (n : NodeState) (id : Id) (place : ℕ) (s : ScopeState) → find (has_end id) n.scopes ≡ slice_get n.scopes place
     → slice_get n.scopes place ≡ Some s → end_with_id s.ends id ≡ None → ⊥
 end_is_there n id place s placed at none =
-    let first : find (has_end id) n.scopes ≡ Some s = place_found (has_end id) n.scopes place placed ∙ at in
+    let first : find (has_end id) n.scopes ≡ Some s = placed ∙ at in
     true≢false (sym (found_passes (has_end id) n.scopes s first) ∙ ap is_some none)
 
 -- ---- a participant
@@ -103,9 +99,10 @@ abbrev by_lone : NodeState → Id → Option Part → PartPlace
 by_lone n id o = elim o [ None ↦ first_up id n.scopes | Some p ↦ lone p ]
 
 pub lone_at : (n : NodeState) (id : Id) (place : ℕ) (p : Part) → NodeFits n
-    → position (λ (x : Part). same_id x.id id) n.parts ≡ Some place → slice_get n.parts place ≡ Some p → FindsLone n id place p
+    → find (λ (x : Part). same_id x.id id) n.parts ≡ slice_get n.parts place → slice_get n.parts place ≡ Some p
+    → FindsLone n id place p
 lone_at n id place p fits placed at =
-    let found : lone_with n id ≡ Some p = place_found (λ (x : Part). same_id x.id id) n.parts place placed ∙ at in
+    let found : lone_with n id ≡ Some p = placed ∙ at in
     let first = first_is (λ (x : Part). same_id x.id id) n.parts p found in
     record {
       node = fits;
@@ -160,9 +157,10 @@ pub up_own : (o : Option Part) (p : Part) → IsTrue (up_fits o) → o ≡ Some 
 up_own o p fits is = own_part p (subst (λ (x : Option Part). IsTrue (up_fits x)) is fits)
 
 pub up_at : (n : NodeState) (id : Id) (place : ℕ) (s : ScopeState) (p : Part) → NodeFits n → lone_with n id ≡ None
-    → position (above_with id) n.scopes ≡ Some place → slice_get n.scopes place ≡ Some s → s.up ≡ Some p → FindsUp n id place s p
+    → find (above_with id) n.scopes ≡ slice_get n.scopes place → slice_get n.scopes place ≡ Some s → s.up ≡ Some p
+    → FindsUp n id place s p
 up_at n id place s p fits alone placed at up =
-    let found : find (above_with id) n.scopes ≡ Some s = place_found (above_with id) n.scopes place placed ∙ at in
+    let found : find (above_with id) n.scopes ≡ Some s = placed ∙ at in
     let first = first_is (above_with id) n.scopes s found in
     let same : same_id p.id id ≡ true = ap (λ (o : Option Part). is_id_above o id) (sym up) ∙ first.1 in
     record {
@@ -174,13 +172,12 @@ up_at n id place s p fits alone placed at up =
       own = up_own s.up p (scope_fits n s fits first.0).up up;
     }
 
-pub nobody_at : (n : NodeState) (id : Id) → lone_with n id ≡ None → position (above_with id) n.scopes ≡ None → part_place n id ≡ nowhere
-nobody_at n id alone none =
-    ap (by_lone n id) alone ∙ none_above id n.scopes (none_found (above_with id) n.scopes none)
+pub nobody_at : (n : NodeState) (id : Id) → lone_with n id ≡ None → find (above_with id) n.scopes ≡ None → part_place n id ≡ nowhere
+nobody_at n id alone none = ap (by_lone n id) alone ∙ none_above id n.scopes none
 
 -- the scope at the place has a participant
-pub up_is_there : (n : NodeState) (id : Id) (place : ℕ) (s : ScopeState) → position (above_with id) n.scopes ≡ Some place
+pub up_is_there : (n : NodeState) (id : Id) (place : ℕ) (s : ScopeState) → find (above_with id) n.scopes ≡ slice_get n.scopes place
     → slice_get n.scopes place ≡ Some s → s.up ≡ None → ⊥
 up_is_there n id place s placed at none =
-    let found : find (above_with id) n.scopes ≡ Some s = place_found (above_with id) n.scopes place placed ∙ at in
+    let found : find (above_with id) n.scopes ≡ Some s = placed ∙ at in
     true≢false (sym (found_passes (above_with id) n.scopes s found) ∙ ap (λ (o : Option Part). is_id_above o id) none)

@@ -5,6 +5,7 @@ ghost use Rattle.ba_objects.specs.Objects.{in_memory, node_of, room_of};
 ghost use Rattle.ba_steps.specs.Node.{new_node};
 
 use crate::changes::{Change, change_part, change_scope};
+use crate::spots::Spots;
 use ba_core::{Memory, Octets};
 use ba_ends::Part;
 use ba_scope::Scope;
@@ -18,6 +19,7 @@ pub struct Fields {
     pub version: u32,
     pub scopes: Vec<Scope>,
     pub parts: Vec<Part>,
+    pub spots: Spots,
 }
 
 impl Fields {
@@ -31,10 +33,11 @@ impl Fields {
             version: 1,
             scopes: Vec::new(alloc),
             parts: Vec::new(alloc),
+            spots: Spots::empty(alloc),
         }
     }
 
-    /// Takes memory for one more scope and for one more lone participant.
+    /// Takes memory for one more scope and for one more lone participant, and for their spots.
     pub fn reserve(&mut self) -> Result<(), Memory>
         ensures node { node_of self.new ≡ node_of self.old }
         ensures room { OnOk result (0 < room_of self.new) }
@@ -42,7 +45,7 @@ impl Fields {
         if self.scopes.reserve(1).is_err() || self.parts.reserve(1).is_err() {
             return Err(Memory);
         }
-        Ok(())
+        self.spots.reserve()
     }
 
     /// Changes what is to be changed.
@@ -50,6 +53,8 @@ impl Fields {
         requires { Suits (in_memory self.old) change }
         ensures { node_of self.new ≡ changed_node (node_of self.old) change }
     {
+        self.spots
+            .learn(&change, self.scopes.len(), self.parts.len());
         match change {
             Change::Nothing => {}
             Change::Scope(place, change) => change_scope(&mut self.scopes[place], change),

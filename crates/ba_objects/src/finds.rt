@@ -1,14 +1,16 @@
 //! Where an object of a node stands.
-ghost use Rattle.std.specs.Prelude.{◌≡◌, ◌<◌, IfSome, IfNone, None, is_some, length, position};
+ghost use Rattle.std.specs.Prelude.{◌≡◌, ◌<◌, IfSome, IfNone, IsTrue, None, is_some, length, position, slice_get};
 ghost use Rattle.std.specs.List.{find};
 ghost use Rattle.ba_objects.specs.Objects.{node_of};
 ghost use Rattle.ba_objects.specs.Finds.{FindsEnd, FindsLone, FindsScope, FindsUp};
+ghost use Rattle.ba_objects.specs.inside.Spots.{StandsAt, has_object};
 ghost use Rattle.ba_ends.specs.Ends.{end_with_id, same_id};
 ghost use Rattle.ba_scope.specs.Scope.{is_id_above};
 ghost use Rattle.ba_steps.specs.Fits.{NodeFits};
 ghost use Rattle.ba_steps.specs.Node.{end_place, nowhere, part_place, scope_with_id};
 
 use crate::fields::Fields;
+use crate::spots::Spot;
 use ba_core::Id;
 use ba_ends::{End, Part};
 use ba_scope::Scope;
@@ -49,7 +51,7 @@ pub(crate) fn find_scope<'a>(node: &'a Fields, id: Id) -> Option<FoundScope<'a>>
     ensures some { IfSome result (λ f. FindsScope (node_of node.now) id f.place f.scope.now) }
     ensures none { IfNone result (scope_with_id (node_of node.now) id ≡ None) }
 {
-    match place_of_scope(&node.scopes, id) {
+    match place_of_scope(node, id) {
         None => None,
         Some(place) => Some(FoundScope {
             place,
@@ -58,11 +60,23 @@ pub(crate) fn find_scope<'a>(node: &'a Fields, id: Id) -> Option<FoundScope<'a>>
     }
 }
 
-fn place_of_scope(scopes: &[Scope], id: Id) -> Option<usize>
-    ensures place { result ≡ position (λ s. same_id s.id id) scopes.now }
-    ensures within { IfSome result (λ k. k < length scopes.now) }
+fn place_of_scope(node: &Fields, id: Id) -> Option<usize>
+    requires { NodeFits (node_of node.now) }
+    ensures some { IfSome result (λ k. find (λ s. same_id s.id id) node.now.scopes.items ≡ slice_get node.now.scopes.items k) }
+    ensures within { IfSome result (λ k. k < length node.now.scopes.items) }
+    ensures none { IfNone result (find (λ s. same_id s.id id) node.now.scopes.items ≡ None) }
 {
-    position_of_scope(scopes, id)
+    match spot_of(node, id) {
+        Some(Spot::InScope(place)) => {
+            if node.scopes[place].id() == id {
+                Some(place)
+            } else {
+                None
+            }
+        }
+        Some(Spot::Lone(_)) => None,
+        None => position_of_scope(&node.scopes, id),
+    }
 }
 
 fn position_of_scope(scopes: &[Scope], id: Id) -> Option<usize>
@@ -77,7 +91,7 @@ pub(crate) fn find_end<'a>(node: &'a Fields, id: Id) -> Option<FoundEnd<'a>>
     ensures some { IfSome result (λ f. FindsEnd (node_of node.now) id f.place f.scope.now f.end.now) }
     ensures none { IfNone result (end_place (node_of node.now) id ≡ None) }
 {
-    match place_with_end(&node.scopes, id) {
+    match place_with_end(node, id) {
         None => None,
         Some(place) => {
             let scope = &node.scopes[place];
@@ -90,11 +104,23 @@ pub(crate) fn find_end<'a>(node: &'a Fields, id: Id) -> Option<FoundEnd<'a>>
 }
 
 // The place of the scope that has an end with this identifier.
-fn place_with_end(scopes: &[Scope], id: Id) -> Option<usize>
-    ensures place { result ≡ position (λ s. is_some (end_with_id s.ends id)) scopes.now }
-    ensures within { IfSome result (λ k. k < length scopes.now) }
+fn place_with_end(node: &Fields, id: Id) -> Option<usize>
+    requires { NodeFits (node_of node.now) }
+    ensures some { IfSome result (λ k. find (λ s. is_some (end_with_id s.ends id)) node.now.scopes.items ≡ slice_get node.now.scopes.items k) }
+    ensures within { IfSome result (λ k. k < length node.now.scopes.items) }
+    ensures none { IfNone result (find (λ s. is_some (end_with_id s.ends id)) node.now.scopes.items ≡ None) }
 {
-    position_with_end(scopes, id)
+    match spot_of(node, id) {
+        Some(Spot::InScope(place)) => {
+            if has_end(&node.scopes[place], id) {
+                Some(place)
+            } else {
+                None
+            }
+        }
+        Some(Spot::Lone(_)) => None,
+        None => position_with_end(&node.scopes, id),
+    }
 }
 
 fn position_with_end(scopes: &[Scope], id: Id) -> Option<usize>
@@ -115,7 +141,7 @@ pub(crate) fn find_lone<'a>(node: &'a Fields, id: Id) -> Option<FoundLone<'a>>
     ensures some { IfSome result (λ f. FindsLone (node_of node.now) id f.place f.part.now) }
     ensures none { IfNone result (find (λ p. same_id p.id id) (node_of node.now).parts ≡ None) }
 {
-    match place_of_lone(&node.parts, id) {
+    match place_of_lone(node, id) {
         None => None,
         Some(place) => Some(FoundLone {
             place,
@@ -124,11 +150,17 @@ pub(crate) fn find_lone<'a>(node: &'a Fields, id: Id) -> Option<FoundLone<'a>>
     }
 }
 
-fn place_of_lone(parts: &[Part], id: Id) -> Option<usize>
-    ensures place { result ≡ position (λ p. same_id p.id id) parts.now }
-    ensures within { IfSome result (λ k. k < length parts.now) }
+fn place_of_lone(node: &Fields, id: Id) -> Option<usize>
+    requires { NodeFits (node_of node.now) }
+    ensures some { IfSome result (λ k. find (λ p. same_id p.id id) node.now.parts.items ≡ slice_get node.now.parts.items k) }
+    ensures within { IfSome result (λ k. k < length node.now.parts.items) }
+    ensures none { IfNone result (find (λ p. same_id p.id id) node.now.parts.items ≡ None) }
 {
-    position_of_lone(parts, id)
+    match spot_of(node, id) {
+        Some(Spot::InScope(_)) => None,
+        Some(Spot::Lone(place)) => Some(place),
+        None => position_of_lone(&node.parts, id),
+    }
 }
 
 fn position_of_lone(parts: &[Part], id: Id) -> Option<usize>
@@ -144,7 +176,7 @@ pub(crate) fn find_up<'a>(node: &'a Fields, id: Id) -> Option<FoundUp<'a>>
     ensures some { IfSome result (λ f. FindsUp (node_of node.now) id f.place f.scope.now f.part.now) }
     ensures none { IfNone result (part_place (node_of node.now) id ≡ nowhere) }
 {
-    match place_below(&node.scopes, id) {
+    match place_below(node, id) {
         None => None,
         Some(place) => {
             let scope = &node.scopes[place];
@@ -157,11 +189,23 @@ pub(crate) fn find_up<'a>(node: &'a Fields, id: Id) -> Option<FoundUp<'a>>
 }
 
 // The place of the scope whose own participant has this identifier.
-fn place_below(scopes: &[Scope], id: Id) -> Option<usize>
-    ensures place { result ≡ position (λ s. is_id_above s.up id) scopes.now }
-    ensures within { IfSome result (λ k. k < length scopes.now) }
+fn place_below(node: &Fields, id: Id) -> Option<usize>
+    requires { NodeFits (node_of node.now) }
+    ensures some { IfSome result (λ k. find (λ s. is_id_above s.up id) node.now.scopes.items ≡ slice_get node.now.scopes.items k) }
+    ensures within { IfSome result (λ k. k < length node.now.scopes.items) }
+    ensures none { IfNone result (find (λ s. is_id_above s.up id) node.now.scopes.items ≡ None) }
 {
-    position_below(scopes, id)
+    match spot_of(node, id) {
+        Some(Spot::InScope(place)) => {
+            if has_up(&node.scopes[place], id) {
+                Some(place)
+            } else {
+                None
+            }
+        }
+        Some(Spot::Lone(_)) => None,
+        None => position_below(&node.scopes, id),
+    }
 }
 
 fn position_below(scopes: &[Scope], id: Id) -> Option<usize>
@@ -177,4 +221,30 @@ fn has_up(scope: &Scope, id: Id) -> bool
         None => false,
         Some(part) => part.id == id,
     }
+}
+
+// Where the object with this identifier stands, where the index knows.
+fn spot_of(node: &Fields, id: Id) -> Option<Spot>
+    ensures { IfSome result (λ spot. StandsAt (node_of node.now) id spot) }
+{
+    match node.spots.guess(id) {
+        Some(spot) if stands_at(node, id, spot) => Some(spot),
+        _ => None,
+    }
+}
+
+// Whether the object with this identifier stands there.
+fn stands_at(node: &Fields, id: Id, spot: Spot) -> bool
+    ensures { IsTrue result → StandsAt (node_of node.now) id spot }
+{
+    match spot {
+        Spot::InScope(place) => place < node.scopes.len() && has_object(&node.scopes[place], id),
+        Spot::Lone(place) => place < node.parts.len() && node.parts[place].id == id,
+    }
+}
+
+fn has_object(scope: &Scope, id: Id) -> bool
+    ensures { result ≡ has_object scope.now id }
+{
+    scope.id() == id || has_up(scope, id) || has_end(scope, id)
 }

@@ -7,6 +7,7 @@ mod fields;
 mod finds;
 mod looks;
 mod objects;
+mod spots;
 
 pub use changes::{Change, PartChange, ScopeChange};
 pub use finds::{FoundEnd, FoundLone, FoundScope, FoundUp};

@@ -134,7 +134,7 @@ impl Objects {
 
     // ---- the doing
 
-    /// Takes memory for one more scope and for one more lone participant.
+    /// Takes memory for one more scope and for one more lone participant, and for their places in the index.
     pub fn reserve(&mut self) -> Result<(), Memory>
         ensures node { self.new.node ≡ self.old.node }
         ensures room { OnOk result (0 < self.new.room) }
@@ -142,7 +142,7 @@ impl Objects {
         self.fields.reserve()
     }
 
-    /// Changes what a plan is to change. It takes no memory.
+    /// Changes what a plan is to change. It can't fail: where there is no memory for the index, a later look-up searches.
     pub fn apply(&mut self, change: Change)
         requires suits { Suits self.old change }
         requires fits { NodeFits self.old.node → NodeFits (changed_node self.old.node change) }

@@ -1,23 +1,19 @@
-use Rattle.std.proofs.Common.{◌≡◌, ◌<◌, Some, length, position, refl, sym}
+use Rattle.std.proofs.Common.{◌<◌, length, refl}
 use Rattle.std.proofs.lemmas.Option.{slice_get_read}
 use Rattle.ba_objects.specs.Objects.{node_of}
-use Rattle.ba_objects.proofs.Found.{no_scope, scope_at}
-use Rattle.ba_ends.specs.Ends.{same_id}
-use Rattle.ba_scope.specs.Scope.{ScopeState}
+use Rattle.ba_objects.proofs.Found.{scope_at}
 use Rattle.ba_steps.specs.Node.{NodeState}
 use Rattle.ba_objects.proofs.finds.find_scope.Goals as goal
 
 pub returns-in-None : goal.returns-in-None
 returns-in-None c =
     let n : NodeState = node_of c.args.node.now in
-    record { some = tt; none = no_scope n c.args.id (sym (rw c.deref.ensures.value at c.in-None.ensures.place)) }
+    record { some = tt; none = c.in-None.ensures.none }
 
 pub returns-in-Some : goal.returns-in-Some
 returns-in-Some c =
     let n : NodeState = node_of c.args.node.now in
     let place = c.in-Some.place in
-    let placed : position (λ (s : ScopeState). same_id s.id c.args.id) n.scopes ≡ Some place =
-    sym (rw c.deref.ensures.value at c.in-Some.ensures.place) in
-    let within : place < length n.scopes = rw c.deref.ensures.value at c.in-Some.ensures.within in
+    let within : place < length n.scopes = c.in-Some.ensures.within in
     let at = slice_get_read n.scopes (length n.scopes) place c.index.result.now refl within c.index.ensures in
-    record { some = scope_at n c.args.id place c.index.result.now c.requires placed at; none = tt }
+    record { some = scope_at n c.args.id place c.index.result.now c.requires c.in-Some.ensures.some at; none = tt }
