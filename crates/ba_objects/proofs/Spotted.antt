@@ -124,7 +124,8 @@ not_lone n id place fits stands =
     let of_s : Among n.scopes stands.0 = among_at n.scopes place stands.0 stands.1 in
     none_passes (λ (p : Part). same_id p.id id) n.parts
     (λ p of_p passes.
-    no_lone_is_owned n stands.0 p id fits of_p of_s (owns_object id stands.0 stands.2) (ap (λ (x : Id). x.0) (sym (same_id_is p.id id passes))))
+    no_lone_is_owned n stands.0 p id fits of_p of_s (owns_object id stands.0 stands.2)
+    (ap (λ (x : Id). x.0) (sym (same_id_is p.id id passes))))
 
 -- ---- a lone participant
 

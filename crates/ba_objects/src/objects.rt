@@ -24,8 +24,8 @@ pub struct Objects {
 }
 
 impl Model for Objects {
-    ghost use Rattle.ba_objects.specs.Objects.{NodeInMemory, in_memory, node_of};
-    ghost use Rattle.ba_steps.specs.Fits.{NodeFits};
+    ghost use Rattle.ba_objects.specs.Objects.{NodeInMemory, in_memory};
+    ghost use Rattle.ba_objects.specs.inside.Counts.{FieldsFit};
     ghost use Rattle.ba_tree.specs.contracts.trees.Content as content;
     ghost use Rattle.std.specs.Coded.{codes};
 
@@ -35,7 +35,7 @@ impl Model for Objects {
 
     ghost view = { λ o. in_memory o.fields };
 
-    ghost invariant = { λ o. NodeFits (node_of o.fields) };
+    ghost invariant = { λ o. FieldsFit o.fields };
 }
 
 impl Objects {

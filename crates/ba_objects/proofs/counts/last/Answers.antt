@@ -8,4 +8,4 @@ pub returns : goal.returns
 returns c =
     let n : NodeState = node_of c.args.node.now in
     let parts : c.len.result ≡ length n.parts = omega (arith, c.len.ensures, c.args.node.now.parts.ok.0) in
-    rw (c.saturating_add.ensures, parts) (counted n c.ids_in.result c.requires (rw c.deref.ensures.value at c.ids_in.ensures))
+    rw (c.saturating_add.ensures, parts) (counted n c.args.node.now.in_scopes c.requires.node c.requires.count)

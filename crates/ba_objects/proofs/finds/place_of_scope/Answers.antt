@@ -43,8 +43,10 @@ returns-in-Some-Lone-clause-none c =
 
 pub returns-in-None-clause-some : goal.returns-in-None-clause-some
 returns-in-None-clause-some c =
-    found_if_some (λ (s : ScopeState). same_id s.id c.args.id) c.args.node.now.scopes.items c.position_of_scope.result (rw c.deref.ensures.value at c.position_of_scope.ensures)
+    found_if_some (λ (s : ScopeState). same_id s.id c.args.id) c.args.node.now.scopes.items c.position_of_scope.result
+    (rw c.deref.ensures.value at c.position_of_scope.ensures)
 
 pub returns-in-None-clause-none : goal.returns-in-None-clause-none
 returns-in-None-clause-none c =
-    none_if_none (λ (s : ScopeState). same_id s.id c.args.id) c.args.node.now.scopes.items c.position_of_scope.result (rw c.deref.ensures.value at c.position_of_scope.ensures)
+    none_if_none (λ (s : ScopeState). same_id s.id c.args.id) c.args.node.now.scopes.items c.position_of_scope.result
+    (rw c.deref.ensures.value at c.position_of_scope.ensures)

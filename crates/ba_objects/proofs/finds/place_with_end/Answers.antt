@@ -40,8 +40,10 @@ returns-in-Some-Lone-clause-none c =
 
 pub returns-in-None-clause-some : goal.returns-in-None-clause-some
 returns-in-None-clause-some c =
-    found_if_some (has_end c.args.id) c.args.node.now.scopes.items c.position_with_end.result (rw c.deref.ensures.value at c.position_with_end.ensures)
+    found_if_some (has_end c.args.id) c.args.node.now.scopes.items c.position_with_end.result
+    (rw c.deref.ensures.value at c.position_with_end.ensures)
 
 pub returns-in-None-clause-none : goal.returns-in-None-clause-none
 returns-in-None-clause-none c =
-    none_if_none (has_end c.args.id) c.args.node.now.scopes.items c.position_with_end.result (rw c.deref.ensures.value at c.position_with_end.ensures)
+    none_if_none (has_end c.args.id) c.args.node.now.scopes.items c.position_with_end.result
+    (rw c.deref.ensures.value at c.position_with_end.ensures)

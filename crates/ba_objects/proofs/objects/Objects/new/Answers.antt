@@ -4,4 +4,7 @@ use Rattle.ba_steps.specs.Fits.{NodeFits}
 use Rattle.ba_objects.proofs.objects.Objects.new.Goals as goal
 
 pub invariant_of-result : goal.invariant_of-result
-invariant_of-result c = subst NodeFits (sym c.empty.ensures) (new_fits c.args.number c.args.base)
+invariant_of-result c = record {
+  node = subst NodeFits (sym c.empty.ensures.node) (new_fits c.args.number c.args.base);
+  count = c.empty.ensures.count;
+}
