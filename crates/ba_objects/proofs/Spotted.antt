@@ -1,20 +1,24 @@
 -- Where an object stands at a spot, no other look-up finds it; for each look-up by the index.
-use Rattle.std.proofs.Common.{◌≡◌, ℕ, zero, suc, Bool, true, false, List, [], ◌∷◌, Option, None, Some, is_some, length, slice_get, slice_index_or, ◌<◌, inl, inr, refl, sym, ap, ◌∙◌, subst, true≢false, if◌then◌else◌, ◌||◌}
+use Rattle.std.proofs.Common.{◌≡◌, ℕ, zero, suc, Bool, true, false, List, [], ◌∷◌, Option, None, Some, is_some, length, slice_get, map, nat_le, slice_index_or, ◌<◌, ◌≤◌, ◌^◌, arith, inl, inr, refl, sym, ap, ◌∙◌, subst, true≢false, if◌then◌else◌, ◌||◌}
 use Rattle.std.proofs.lemmas.Option.{slice_get_read, slice_get_within}
+use Rattle.std.proofs.lemmas.Bool.{and_from}
+use Rattle.std.proofs.lemmas.Bool.Decides.{nat_tests}
 use Rattle.std.specs.List.{find}
+use Rattle.ba_core.specs.Numbers.{counter_of, id_of}
 use Rattle.ba_core.specs.declared.identifiers.Id.{Id}
 use Rattle.ba_objects.proofs.Found.{above_with, has_end, lone_with}
-use Rattle.ba_objects.specs.inside.Spots.{StandsAt, has_object}
+use Rattle.ba_objects.specs.inside.Spots.{StandsAt, has_object, may_be_used}
 use Rattle.ba_objects.specs.declared.spots.Spot.TheVariants as spots
 use Rattle.ba_ends.specs.Ends.{end_with_id, same_id}
 use Rattle.ba_ends.specs.declared.ends.End.{End}
 use Rattle.ba_ends.specs.declared.parts.Part.{Part}
 use Rattle.ba_scope.specs.Scope.{ScopeState, is_id_above}
-use Rattle.ba_steps.proofs.Members.{same_id_is}
-use Rattle.ba_steps.proofs.Objects.{end_owned, no_lone_is_owned, one_lone, owners_are_one, up_owned}
+use Rattle.ba_steps.proofs.Members.{all_among, among_left, among_map, among_right, number_is_same, same_id_is}
+use Rattle.ba_steps.proofs.Objects.{end_owned, ids_in_scopes, in_scopes, lone_ids, no_lone_is_owned, one_lone, owners_are_one, up_owned}
 use Rattle.ba_steps.proofs.Places.{first_is}
-use Rattle.ba_steps.specs.Fits.{NodeFits}
-use Rattle.ba_steps.specs.Node.{Among, NodeState, scope_ids}
+use Rattle.ba_steps.specs.Fits.{IsIdAt, NodeFits}
+use Rattle.ba_steps.specs.Node.{Among, NodeState, counter, id_at, ids, last, scope_ids}
+use Rattle.ba_tree.specs.Trees.{greatest}
 
 -- ---- lists
 
@@ -148,3 +152,38 @@ lone_in_no_scope n id test place fits owns stands =
     let is : stands.0.id ≡ id = same_id_is stands.0.id id stands.2 in
     none_passes test n.scopes
     (λ t of_t passes. no_lone_is_owned n t stands.0 id fits of_p of_t (owns t passes) (ap (λ (x : Id). x.0) (sym is)))
+
+-- ---- an identifier that no object has
+
+none_above : (f : Id → ℕ) (xs : List Id) (x : Id) → Among xs x → f x ≤ greatest (map f xs)
+none_above f [] x among = absurd among
+none_above f (y ∷ more) x (inl same) = let is : f y ≡ f x = ap f same in omega arith
+none_above f (y ∷ more) x (inr later) = let rest = none_above f more x later in omega arith
+
+used_may : (n : NodeState) (id : Id) → NodeFits n → Among (ids n) id → may_be_used n id ≡ true
+used_may n id fits among =
+    let at : IsIdAt n.number id = all_among (IsIdAt n.number) (ids n) id fits.here among in
+    let small : at.counter < 2 ^ 64 = at.is_counter.1 in
+    let is : counter id ≡ at.counter = ap counter_of at.spelled ∙ omega (arith, small) in
+    let from_1 : 1 ≤ at.counter = at.is_counter.0 in
+    let up_to : counter id ≤ last n = none_above counter (ids n) id among in
+    and_from (nat_le 1 (counter id)) _ (grind (arith, nat_tests))
+    (and_from (nat_le (counter id) (last n)) _ (grind (arith, nat_tests))
+    (number_is_same (id_at n (counter id)) id (ap (id_of n.number) is ∙ sym at.spelled)))
+
+pub unused_stands : (n : NodeState) (id : Id) → NodeFits n → may_be_used n id ≡ false → StandsAt n id spots.Nowhere
+unused_stands n id fits unused among = true≢false (sym (used_may n id fits among) ∙ unused)
+
+pub nowhere_in_scopes : (n : NodeState) (id : Id) (test : ScopeState → Bool) → Owns id test → StandsAt n id spots.Nowhere
+    → find test n.scopes ≡ None
+nowhere_in_scopes n id test owns stands =
+    none_passes test n.scopes
+    (λ t of_t passes. stands (among_left (ids_in_scopes n) (lone_ids n) id (in_scopes n t id of_t (owns t passes))))
+
+pub nowhere_lone : (n : NodeState) (id : Id) → StandsAt n id spots.Nowhere → lone_with n id ≡ None
+nowhere_lone n id stands =
+    none_passes (λ (p : Part). same_id p.id id) n.parts
+    (λ p of_p passes.
+    let here : Among (lone_ids n) p.id = among_map (λ (x : Part). x.id) n.parts p of_p in
+    stands (among_right (ids_in_scopes n) (lone_ids n) id
+    (subst (λ (x : Id). Among (lone_ids n) x) (same_id_is p.id id passes) here)))

@@ -3,12 +3,13 @@ ghost use Rattle.std.specs.Prelude.{◌≡◌, ◌<◌, IfSome, IfNone, IsTrue, 
 ghost use Rattle.std.specs.List.{find};
 ghost use Rattle.ba_objects.specs.Objects.{node_of};
 ghost use Rattle.ba_objects.specs.Finds.{FindsEnd, FindsLone, FindsScope, FindsUp};
-ghost use Rattle.ba_objects.specs.inside.Spots.{StandsAt, has_object};
+ghost use Rattle.ba_objects.specs.inside.Counts.{FieldsFit};
+ghost use Rattle.ba_objects.specs.inside.Spots.{StandsAt, has_object, may_be_used};
 ghost use Rattle.ba_ends.specs.Ends.{end_with_id, same_id};
 ghost use Rattle.ba_scope.specs.Scope.{is_id_above};
-ghost use Rattle.ba_steps.specs.Fits.{NodeFits};
 ghost use Rattle.ba_steps.specs.Node.{end_place, nowhere, part_place, scope_with_id};
 
+use crate::counts::last;
 use crate::fields::Fields;
 use crate::spots::Spot;
 use ba_core::Id;
@@ -47,7 +48,7 @@ pub struct FoundUp<'a> {
 
 /// The scope with this identifier.
 pub(crate) fn find_scope<'a>(node: &'a Fields, id: Id) -> Option<FoundScope<'a>>
-    requires { NodeFits (node_of node.now) }
+    requires { FieldsFit node.now }
     ensures some { IfSome result (λ f. FindsScope (node_of node.now) id f.place f.scope.now) }
     ensures none { IfNone result (scope_with_id (node_of node.now) id ≡ None) }
 {
@@ -61,7 +62,7 @@ pub(crate) fn find_scope<'a>(node: &'a Fields, id: Id) -> Option<FoundScope<'a>>
 }
 
 fn place_of_scope(node: &Fields, id: Id) -> Option<usize>
-    requires { NodeFits (node_of node.now) }
+    requires { FieldsFit node.now }
     ensures some { IfSome result (λ k. find (λ s. same_id s.id id) node.now.scopes.items ≡ slice_get node.now.scopes.items k) }
     ensures within { IfSome result (λ k. k < length node.now.scopes.items) }
     ensures none { IfNone result (find (λ s. same_id s.id id) node.now.scopes.items ≡ None) }
@@ -75,6 +76,7 @@ fn place_of_scope(node: &Fields, id: Id) -> Option<usize>
             }
         }
         Some(Spot::Lone(_)) => None,
+        Some(Spot::Nowhere) => None,
         None => position_of_scope(&node.scopes, id),
     }
 }
@@ -87,7 +89,7 @@ fn position_of_scope(scopes: &[Scope], id: Id) -> Option<usize>
 
 /// The end with this identifier.
 pub(crate) fn find_end<'a>(node: &'a Fields, id: Id) -> Option<FoundEnd<'a>>
-    requires { NodeFits (node_of node.now) }
+    requires { FieldsFit node.now }
     ensures some { IfSome result (λ f. FindsEnd (node_of node.now) id f.place f.scope.now f.end.now) }
     ensures none { IfNone result (end_place (node_of node.now) id ≡ None) }
 {
@@ -105,7 +107,7 @@ pub(crate) fn find_end<'a>(node: &'a Fields, id: Id) -> Option<FoundEnd<'a>>
 
 // The place of the scope that has an end with this identifier.
 fn place_with_end(node: &Fields, id: Id) -> Option<usize>
-    requires { NodeFits (node_of node.now) }
+    requires { FieldsFit node.now }
     ensures some { IfSome result (λ k. find (λ s. is_some (end_with_id s.ends id)) node.now.scopes.items ≡ slice_get node.now.scopes.items k) }
     ensures within { IfSome result (λ k. k < length node.now.scopes.items) }
     ensures none { IfNone result (find (λ s. is_some (end_with_id s.ends id)) node.now.scopes.items ≡ None) }
@@ -119,6 +121,7 @@ fn place_with_end(node: &Fields, id: Id) -> Option<usize>
             }
         }
         Some(Spot::Lone(_)) => None,
+        Some(Spot::Nowhere) => None,
         None => position_with_end(&node.scopes, id),
     }
 }
@@ -137,7 +140,7 @@ fn has_end(scope: &Scope, id: Id) -> bool
 
 /// The lone participant with this identifier.
 pub(crate) fn find_lone<'a>(node: &'a Fields, id: Id) -> Option<FoundLone<'a>>
-    requires { NodeFits (node_of node.now) }
+    requires { FieldsFit node.now }
     ensures some { IfSome result (λ f. FindsLone (node_of node.now) id f.place f.part.now) }
     ensures none { IfNone result (find (λ p. same_id p.id id) (node_of node.now).parts ≡ None) }
 {
@@ -151,7 +154,7 @@ pub(crate) fn find_lone<'a>(node: &'a Fields, id: Id) -> Option<FoundLone<'a>>
 }
 
 fn place_of_lone(node: &Fields, id: Id) -> Option<usize>
-    requires { NodeFits (node_of node.now) }
+    requires { FieldsFit node.now }
     ensures some { IfSome result (λ k. find (λ p. same_id p.id id) node.now.parts.items ≡ slice_get node.now.parts.items k) }
     ensures within { IfSome result (λ k. k < length node.now.parts.items) }
     ensures none { IfNone result (find (λ p. same_id p.id id) node.now.parts.items ≡ None) }
@@ -159,6 +162,7 @@ fn place_of_lone(node: &Fields, id: Id) -> Option<usize>
     match spot_of(node, id) {
         Some(Spot::InScope(_)) => None,
         Some(Spot::Lone(place)) => Some(place),
+        Some(Spot::Nowhere) => None,
         None => position_of_lone(&node.parts, id),
     }
 }
@@ -171,7 +175,7 @@ fn position_of_lone(parts: &[Part], id: Id) -> Option<usize>
 
 /// The scope's own participant with this identifier, which no lone participant has.
 pub(crate) fn find_up<'a>(node: &'a Fields, id: Id) -> Option<FoundUp<'a>>
-    requires fits { NodeFits (node_of node.now) }
+    requires fits { FieldsFit node.now }
     requires alone { find (λ p. same_id p.id id) (node_of node.now).parts ≡ None }
     ensures some { IfSome result (λ f. FindsUp (node_of node.now) id f.place f.scope.now f.part.now) }
     ensures none { IfNone result (part_place (node_of node.now) id ≡ nowhere) }
@@ -190,7 +194,7 @@ pub(crate) fn find_up<'a>(node: &'a Fields, id: Id) -> Option<FoundUp<'a>>
 
 // The place of the scope whose own participant has this identifier.
 fn place_below(node: &Fields, id: Id) -> Option<usize>
-    requires { NodeFits (node_of node.now) }
+    requires { FieldsFit node.now }
     ensures some { IfSome result (λ k. find (λ s. is_id_above s.up id) node.now.scopes.items ≡ slice_get node.now.scopes.items k) }
     ensures within { IfSome result (λ k. k < length node.now.scopes.items) }
     ensures none { IfNone result (find (λ s. is_id_above s.up id) node.now.scopes.items ≡ None) }
@@ -204,6 +208,7 @@ fn place_below(node: &Fields, id: Id) -> Option<usize>
             }
         }
         Some(Spot::Lone(_)) => None,
+        Some(Spot::Nowhere) => None,
         None => position_below(&node.scopes, id),
     }
 }
@@ -223,14 +228,27 @@ fn has_up(scope: &Scope, id: Id) -> bool
     }
 }
 
-// Where the object with this identifier stands, where the index knows.
+// Where the object with this identifier stands, where that is known without a search.
 fn spot_of(node: &Fields, id: Id) -> Option<Spot>
+    requires { FieldsFit node.now }
     ensures { IfSome result (λ spot. StandsAt (node_of node.now) id spot) }
 {
+    if !may_be_used(node, id) {
+        return Some(Spot::Nowhere);
+    }
     match node.spots.guess(id) {
         Some(spot) if stands_at(node, id, spot) => Some(spot),
         _ => None,
     }
+}
+
+// Whether the identifier may be in use, by its node and its counter.
+fn may_be_used(node: &Fields, id: Id) -> bool
+    requires { FieldsFit node.now }
+    ensures { result ≡ may_be_used (node_of node.now) id }
+{
+    let counter = id.counter();
+    1 <= counter && counter <= last(node) && Id::of(node.number, counter) == id
 }
 
 // Whether the object with this identifier stands there.
@@ -240,6 +258,7 @@ fn stands_at(node: &Fields, id: Id, spot: Spot) -> bool
     match spot {
         Spot::InScope(place) => place < node.scopes.len() && has_object(&node.scopes[place], id),
         Spot::Lone(place) => place < node.parts.len() && node.parts[place].id == id,
+        Spot::Nowhere => false,
     }
 }
 

@@ -1,7 +1,7 @@
 //! What a node shows of its objects.
 ghost use Rattle.std.specs.Prelude.{◌≡◌, slice_get};
 ghost use Rattle.ba_objects.specs.Objects.{node_of};
-ghost use Rattle.ba_steps.specs.Fits.{NodeFits};
+ghost use Rattle.ba_objects.specs.inside.Counts.{FieldsFit};
 ghost use Rattle.ba_steps.specs.Shown.{deadline_of, in_scope, object_ids, pending_deadline, seen_at};
 
 use crate::fields::Fields;
@@ -12,7 +12,7 @@ use ba_steps::Seen;
 
 /// What the object with this identifier shows.
 pub(crate) fn status(node: &Fields, id: Id) -> Option<Seen>
-    requires { NodeFits (node_of node.now) }
+    requires { FieldsFit node.now }
     ensures { result ≡ seen_at (node_of node.now) id }
 {
     if let Some(found) = find_scope(node, id) {
@@ -33,7 +33,7 @@ pub(crate) fn status(node: &Fields, id: Id) -> Option<Seen>
 
 /// The deadline of the root with this identifier, where it has no verdict.
 pub(crate) fn deadline(node: &Fields, scope: Id) -> Option<u64>
-    requires { NodeFits (node_of node.now) }
+    requires { FieldsFit node.now }
     ensures { result ≡ deadline_of (node_of node.now) scope }
 {
     match find_scope(node, scope) {
@@ -54,7 +54,7 @@ fn pending(scope: &Scope) -> Option<u64>
 
 /// The identifier at this place among the ends of this scope and, after them, its own participant.
 pub(crate) fn in_scope(node: &Fields, scope: Id, place: u32) -> Option<Id>
-    requires { NodeFits (node_of node.now) }
+    requires { FieldsFit node.now }
     ensures { result ≡ in_scope (node_of node.now) scope place }
 {
     match find_scope(node, scope) {

@@ -1,5 +1,4 @@
 //! Where the objects of a node stood when they were made: hints, of which nothing is promised.
-ghost use Rattle.std.specs.Prelude.{◌≡◌};
 
 use crate::changes::{Change, ScopeChange};
 use ba_core::{Id, Memory};
@@ -12,6 +11,8 @@ pub enum Spot {
     InScope(usize),
     /// It is this lone participant.
     Lone(usize),
+    /// There is no such object.
+    Nowhere,
 }
 
 /// The spots of a node's objects by their counters, from 1. A look-up looks at the spot before it believes it.

@@ -25,6 +25,6 @@ returns-in-Some-end c =
     let within : place < length n.scopes = c.in-Some.ensures.within in
     let at = slice_get_read n.scopes (length n.scopes) place c.index-scope.result.now refl within c.index-scope.ensures in
     record {
-      some = end_placed n c.args.id place c.index-scope.result.now _ c.requires c.in-Some.ensures.some at (sym c.in-Some-end.ensures);
+      some = end_placed n c.args.id place c.index-scope.result.now _ c.requires.node c.in-Some.ensures.some at (sym c.in-Some-end.ensures);
       none = tt;
     }

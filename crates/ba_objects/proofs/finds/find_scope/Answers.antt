@@ -16,4 +16,4 @@ returns-in-Some c =
     let place = c.in-Some.place in
     let within : place < length n.scopes = c.in-Some.ensures.within in
     let at = slice_get_read n.scopes (length n.scopes) place c.index.result.now refl within c.index.ensures in
-    record { some = scope_at n c.args.id place c.index.result.now c.requires c.in-Some.ensures.some at; none = tt }
+    record { some = scope_at n c.args.id place c.index.result.now c.requires.node c.in-Some.ensures.some at; none = tt }

@@ -25,7 +25,7 @@ returns-in-Some-up c =
     let within : place < length n.scopes = c.in-Some.ensures.within in
     let at = slice_get_read n.scopes (length n.scopes) place c.index-scope.result.now refl within c.index-scope.ensures in
     record {
-      some = up_at n c.args.id place c.index-scope.result.now _ c.requires.fits c.requires.alone c.in-Some.ensures.some at
+      some = up_at n c.args.id place c.index-scope.result.now _ c.requires.fits.node c.requires.alone c.in-Some.ensures.some at
           (sym c.in-Some-up.ensures);
       none = tt;
     }
