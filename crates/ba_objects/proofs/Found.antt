@@ -1,5 +1,6 @@
 -- What a look-up by places finds stands there; for the look-ups of scopes, ends and participants.
-use Rattle.std.proofs.Common.{◌≡◌, ℕ, Bool, true, false, List, [], ◌∷◌, Option, None, Some, IsTrue, is_some, slice_get, refl, sym, ap, ◌∙◌, subst, true≢false, if◌then◌else◌}
+use Rattle.std.proofs.Common.{◌≡◌, ℕ, Bool, true, false, List, [], ◌∷◌, Option, None, Some, IsTrue, is_some, slice_get, refl, sym, ap, ◌∙◌}
+use Rattle.std.proofs.Common.{subst, true≢false, if◌then◌else◌}
 use Rattle.std.proofs.lemmas.Bool.{and_parts}
 use Rattle.std.specs.List.{find}
 use Rattle.ba_core.specs.PartRows.{is_part_state}
@@ -17,7 +18,8 @@ use Rattle.ba_steps.proofs.Members.{all_among, same_id_is}
 use Rattle.ba_steps.proofs.Objects.{lone_fits, scope_fits}
 use Rattle.ba_steps.proofs.Places.{end_found, first_is, scope_found}
 use Rattle.ba_steps.specs.Fits.{NodeFits}
-use Rattle.ba_steps.specs.Node.{Among, EndPlace, NodeState, PartPlace, end_place, first_end, first_up, lone, nowhere, part_place, scope_with_id, upward}
+use Rattle.ba_steps.specs.Node.{Among, EndPlace, NodeState, PartPlace, end_place, first_end, first_up, lone, nowhere, part_place}
+use Rattle.ba_steps.specs.Node.{scope_with_id, upward}
 
 -- ---- a scope
 

@@ -9,11 +9,11 @@ pub record NodeInMemory : Type 0 where
   pub room : ℕ
 
 -- the node that the fields hold
-abbrev pub node_of : Fields → NodeState
-node_of f = record { number = f.number; base = f.base; version = f.version; scopes = f.scopes.items; parts = f.parts.items }
+abbrev pub node_of_fields : Fields → NodeState
+node_of_fields f = record { number = f.number; base = f.base; version = f.version; scopes = f.scopes.items; parts = f.parts.items }
 
 abbrev pub room_of : Fields → ℕ
 room_of f = min (vec_capacity f.scopes - vec_len f.scopes) (vec_capacity f.parts - vec_len f.parts)
 
 abbrev pub in_memory : Fields → NodeInMemory
-in_memory f = record { node = node_of f; room = room_of f }
+in_memory f = record { node = node_of_fields f; room = room_of f }

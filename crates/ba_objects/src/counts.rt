@@ -1,6 +1,6 @@
 //! How many objects a node has.
 ghost use Rattle.std.specs.Prelude.{◌≡◌};
-ghost use Rattle.ba_objects.specs.Objects.{node_of};
+ghost use Rattle.ba_objects.specs.Objects.{node_of_fields};
 ghost use Rattle.ba_objects.specs.inside.Counts.{FieldsFit, id_count};
 ghost use Rattle.ba_steps.specs.Node.{last};
 ghost use Rattle.ba_tree.specs.Lengths.{in_u64};
@@ -11,7 +11,7 @@ use ba_scope::Scope;
 /// The greatest counter in use: each from 1 up to it is.
 pub(crate) fn last(node: &Fields) -> u64
     requires { FieldsFit node.now }
-    ensures { result ≡ last (node_of node.now) }
+    ensures { result ≡ last (node_of_fields node.now) }
 {
     node.in_scopes.saturating_add(node.parts.len() as u64)
 }

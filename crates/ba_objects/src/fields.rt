@@ -1,7 +1,7 @@
 //! The fields of a node.
 ghost use Rattle.std.specs.Prelude.{◌≡◌, ◌<◌, OnOk};
 ghost use Rattle.ba_objects.specs.Changes.{Suits, changed_node};
-ghost use Rattle.ba_objects.specs.Objects.{in_memory, node_of, room_of};
+ghost use Rattle.ba_objects.specs.Objects.{in_memory, node_of_fields, room_of};
 ghost use Rattle.ba_objects.specs.inside.Counts.{FieldsFit, IsCounted};
 ghost use Rattle.ba_steps.specs.Node.{new_node, with_new_scope};
 
@@ -29,7 +29,7 @@ pub struct Fields {
 impl Fields {
     /// Those of a node without objects.
     pub fn empty(alloc: Global, number: u32, base: Octets) -> Fields
-        ensures node { node_of result ≡ new_node number base }
+        ensures node { node_of_fields result ≡ new_node number base }
         ensures count { IsCounted result }
     {
         Fields {
@@ -45,7 +45,7 @@ impl Fields {
 
     /// Takes memory for one more scope and for one more lone participant, and for their spots.
     pub fn reserve(&mut self) -> Result<(), Memory>
-        ensures node { node_of self.new ≡ node_of self.old }
+        ensures node { node_of_fields self.new ≡ node_of_fields self.old }
         ensures count { IsCounted self.old → IsCounted self.new }
         ensures room { OnOk result (0 < room_of self.new) }
     {
@@ -59,7 +59,7 @@ impl Fields {
     pub fn apply(&mut self, change: Change)
         requires suits { Suits (in_memory self.old) change }
         requires fits { FieldsFit self.old }
-        ensures node { node_of self.new ≡ changed_node (node_of self.old) change }
+        ensures node { node_of_fields self.new ≡ changed_node (node_of_fields self.old) change }
         ensures count { IsCounted self.new }
     {
         self.spots
@@ -76,7 +76,7 @@ impl Fields {
     fn change_scope(&mut self, place: usize, change: ScopeChange)
         requires suits { Suits (in_memory self.old) (Change.Scope place change) }
         requires fits { FieldsFit self.old }
-        ensures node { node_of self.new ≡ changed_node (node_of self.old) (Change.Scope place change) }
+        ensures node { node_of_fields self.new ≡ changed_node (node_of_fields self.old) (Change.Scope place change) }
         ensures count { IsCounted self.new }
     {
         let scope = &mut self.scopes[place];
@@ -89,7 +89,7 @@ impl Fields {
     fn push_scope(&mut self, scope: Scope)
         requires room { 0 < room_of self.old }
         requires count { IsCounted self.old }
-        ensures node { node_of self.new ≡ with_new_scope (node_of self.old) scope }
+        ensures node { node_of_fields self.new ≡ with_new_scope (node_of_fields self.old) scope }
         ensures count { IsCounted self.new }
     {
         self.in_scopes = self.in_scopes.saturating_add(ids_of(&scope));

@@ -1,7 +1,7 @@
 //! Where an object of a node stands.
 ghost use Rattle.std.specs.Prelude.{◌≡◌, ◌<◌, IfSome, IfNone, IsTrue, None, is_some, length, position, slice_get};
 ghost use Rattle.std.specs.List.{find};
-ghost use Rattle.ba_objects.specs.Objects.{node_of};
+ghost use Rattle.ba_objects.specs.Objects.{node_of_fields};
 ghost use Rattle.ba_objects.specs.Finds.{FindsEnd, FindsLone, FindsScope, FindsUp};
 ghost use Rattle.ba_objects.specs.inside.Counts.{FieldsFit};
 ghost use Rattle.ba_objects.specs.inside.Spots.{StandsAt, has_object, may_be_used};
@@ -49,8 +49,8 @@ pub struct FoundUp<'a> {
 /// The scope with this identifier.
 pub(crate) fn find_scope<'a>(node: &'a Fields, id: Id) -> Option<FoundScope<'a>>
     requires { FieldsFit node.now }
-    ensures some { IfSome result (λ f. FindsScope (node_of node.now) id f.place f.scope.now) }
-    ensures none { IfNone result (scope_with_id (node_of node.now) id ≡ None) }
+    ensures some { IfSome result (λ f. FindsScope (node_of_fields node.now) id f.place f.scope.now) }
+    ensures none { IfNone result (scope_with_id (node_of_fields node.now) id ≡ None) }
 {
     match place_of_scope(node, id) {
         None => None,
@@ -90,8 +90,8 @@ fn position_of_scope(scopes: &[Scope], id: Id) -> Option<usize>
 /// The end with this identifier.
 pub(crate) fn find_end<'a>(node: &'a Fields, id: Id) -> Option<FoundEnd<'a>>
     requires { FieldsFit node.now }
-    ensures some { IfSome result (λ f. FindsEnd (node_of node.now) id f.place f.scope.now f.end.now) }
-    ensures none { IfNone result (end_place (node_of node.now) id ≡ None) }
+    ensures some { IfSome result (λ f. FindsEnd (node_of_fields node.now) id f.place f.scope.now f.end.now) }
+    ensures none { IfNone result (end_place (node_of_fields node.now) id ≡ None) }
 {
     match place_with_end(node, id) {
         None => None,
@@ -141,8 +141,8 @@ fn has_end(scope: &Scope, id: Id) -> bool
 /// The lone participant with this identifier.
 pub(crate) fn find_lone<'a>(node: &'a Fields, id: Id) -> Option<FoundLone<'a>>
     requires { FieldsFit node.now }
-    ensures some { IfSome result (λ f. FindsLone (node_of node.now) id f.place f.part.now) }
-    ensures none { IfNone result (find (λ p. same_id p.id id) (node_of node.now).parts ≡ None) }
+    ensures some { IfSome result (λ f. FindsLone (node_of_fields node.now) id f.place f.part.now) }
+    ensures none { IfNone result (find (λ p. same_id p.id id) (node_of_fields node.now).parts ≡ None) }
 {
     match place_of_lone(node, id) {
         None => None,
@@ -176,9 +176,9 @@ fn position_of_lone(parts: &[Part], id: Id) -> Option<usize>
 /// The scope's own participant with this identifier, which no lone participant has.
 pub(crate) fn find_up<'a>(node: &'a Fields, id: Id) -> Option<FoundUp<'a>>
     requires fits { FieldsFit node.now }
-    requires alone { find (λ p. same_id p.id id) (node_of node.now).parts ≡ None }
-    ensures some { IfSome result (λ f. FindsUp (node_of node.now) id f.place f.scope.now f.part.now) }
-    ensures none { IfNone result (part_place (node_of node.now) id ≡ nowhere) }
+    requires alone { find (λ p. same_id p.id id) (node_of_fields node.now).parts ≡ None }
+    ensures some { IfSome result (λ f. FindsUp (node_of_fields node.now) id f.place f.scope.now f.part.now) }
+    ensures none { IfNone result (part_place (node_of_fields node.now) id ≡ nowhere) }
 {
     match place_below(node, id) {
         None => None,
@@ -231,7 +231,7 @@ fn has_up(scope: &Scope, id: Id) -> bool
 // Where the object with this identifier stands, where that is known without a search.
 fn spot_of(node: &Fields, id: Id) -> Option<Spot>
     requires { FieldsFit node.now }
-    ensures { IfSome result (λ spot. StandsAt (node_of node.now) id spot) }
+    ensures { IfSome result (λ spot. StandsAt (node_of_fields node.now) id spot) }
 {
     if !may_be_used(node, id) {
         return Some(Spot::Nowhere);
@@ -245,7 +245,7 @@ fn spot_of(node: &Fields, id: Id) -> Option<Spot>
 // Whether the identifier may be in use, by its node and its counter.
 fn may_be_used(node: &Fields, id: Id) -> bool
     requires { FieldsFit node.now }
-    ensures { result ≡ may_be_used (node_of node.now) id }
+    ensures { result ≡ may_be_used (node_of_fields node.now) id }
 {
     let counter = id.counter();
     1 <= counter && counter <= last(node) && Id::of(node.number, counter) == id
@@ -253,7 +253,7 @@ fn may_be_used(node: &Fields, id: Id) -> bool
 
 // Whether the object with this identifier stands there.
 fn stands_at(node: &Fields, id: Id, spot: Spot) -> bool
-    ensures { IsTrue result → StandsAt (node_of node.now) id spot }
+    ensures { IsTrue result → StandsAt (node_of_fields node.now) id spot }
 {
     match spot {
         Spot::InScope(place) => place < node.scopes.len() && has_object(&node.scopes[place], id),

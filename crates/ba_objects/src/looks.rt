@@ -1,6 +1,6 @@
 //! What a node shows of its objects.
 ghost use Rattle.std.specs.Prelude.{◌≡◌, slice_get};
-ghost use Rattle.ba_objects.specs.Objects.{node_of};
+ghost use Rattle.ba_objects.specs.Objects.{node_of_fields};
 ghost use Rattle.ba_objects.specs.inside.Counts.{FieldsFit};
 ghost use Rattle.ba_steps.specs.Shown.{deadline_of, in_scope, object_ids, pending_deadline, seen_at};
 
@@ -13,7 +13,7 @@ use ba_steps::Seen;
 /// What the object with this identifier shows.
 pub(crate) fn status(node: &Fields, id: Id) -> Option<Seen>
     requires { FieldsFit node.now }
-    ensures { result ≡ seen_at (node_of node.now) id }
+    ensures { result ≡ seen_at (node_of_fields node.now) id }
 {
     if let Some(found) = find_scope(node, id) {
         return Some(Seen::Scope(found.scope.kind(), found.scope.verdict()));
@@ -34,7 +34,7 @@ pub(crate) fn status(node: &Fields, id: Id) -> Option<Seen>
 /// The deadline of the root with this identifier, where it has no verdict.
 pub(crate) fn deadline(node: &Fields, scope: Id) -> Option<u64>
     requires { FieldsFit node.now }
-    ensures { result ≡ deadline_of (node_of node.now) scope }
+    ensures { result ≡ deadline_of (node_of_fields node.now) scope }
 {
     match find_scope(node, scope) {
         None => None,
@@ -55,7 +55,7 @@ fn pending(scope: &Scope) -> Option<u64>
 /// The identifier at this place among the ends of this scope and, after them, its own participant.
 pub(crate) fn in_scope(node: &Fields, scope: Id, place: u32) -> Option<Id>
     requires { FieldsFit node.now }
-    ensures { result ≡ in_scope (node_of node.now) scope place }
+    ensures { result ≡ in_scope (node_of_fields node.now) scope place }
 {
     match find_scope(node, scope) {
         None => None,

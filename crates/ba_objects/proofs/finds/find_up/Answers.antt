@@ -1,18 +1,18 @@
 use Rattle.std.proofs.Common.{◌<◌, length, refl, sym}
 use Rattle.std.proofs.lemmas.Option.{slice_get_read}
-use Rattle.ba_objects.specs.Objects.{node_of}
+use Rattle.ba_objects.specs.Objects.{node_of_fields}
 use Rattle.ba_objects.proofs.Found.{nobody_at, up_at, up_is_there}
 use Rattle.ba_steps.specs.Node.{NodeState}
 use Rattle.ba_objects.proofs.finds.find_up.Goals as goal
 
 pub returns-in-None : goal.returns-in-None
 returns-in-None c =
-    let n : NodeState = node_of c.args.node.now in
+    let n : NodeState = node_of_fields c.args.node.now in
     record { some = tt; none = nobody_at n c.args.id c.requires.alone c.in-None.ensures.none }
 
 pub returns-in-None-up : goal.returns-in-None-up
 returns-in-None-up c =
-    let n : NodeState = node_of c.args.node.now in
+    let n : NodeState = node_of_fields c.args.node.now in
     let place = c.in-Some.place in
     let within : place < length n.scopes = c.in-Some.ensures.within in
     let at = slice_get_read n.scopes (length n.scopes) place c.index-scope.result.now refl within c.index-scope.ensures in
@@ -20,7 +20,7 @@ returns-in-None-up c =
 
 pub returns-in-Some-up : goal.returns-in-Some-up
 returns-in-Some-up c =
-    let n : NodeState = node_of c.args.node.now in
+    let n : NodeState = node_of_fields c.args.node.now in
     let place = c.in-Some.place in
     let within : place < length n.scopes = c.in-Some.ensures.within in
     let at = slice_get_read n.scopes (length n.scopes) place c.index-scope.result.now refl within c.index-scope.ensures in

@@ -2,14 +2,14 @@ use Rattle.std.proofs.Common.{◌≡◌, ◌∙◌, sym, slice_get, Some, subst}
 use Rattle.ba_ends.proofs.Places.{found_if_some, none_if_none}
 use Rattle.ba_objects.proofs.Found.{above_with}
 use Rattle.ba_objects.proofs.Spotted.{lone_in_no_scope, not_in_scope, owns_up, scope_read, scope_spotted, scope_within, nowhere_in_scopes}
-use Rattle.ba_objects.specs.Objects.{node_of}
+use Rattle.ba_objects.specs.Objects.{node_of_fields}
 use Rattle.ba_objects.specs.inside.Spots.{StandsAt}
 use Rattle.ba_steps.specs.Node.{NodeState}
 use Rattle.ba_objects.proofs.finds.place_below.Goals as goal
 
 pub returns-then-has_up-clause-some : goal.returns-then-has_up-clause-some
 returns-then-has_up-clause-some c =
-    let n : NodeState = node_of c.args.node.now in
+    let n : NodeState = node_of_fields c.args.node.now in
     let place = c.in-Some-InScope.place in
     let stands = subst (StandsAt n c.args.id) c.in-Some-InScope.field-0-is c.in-Some-InScope.ensures in
     let s = c.index.result.now in
@@ -19,13 +19,13 @@ returns-then-has_up-clause-some c =
 
 pub returns-then-has_up-clause-within : goal.returns-then-has_up-clause-within
 returns-then-has_up-clause-within c =
-    let n : NodeState = node_of c.args.node.now in
+    let n : NodeState = node_of_fields c.args.node.now in
     let stands = subst (StandsAt n c.args.id) c.in-Some-InScope.field-0-is c.in-Some-InScope.ensures in
     scope_within n c.args.id c.in-Some-InScope.place stands
 
 pub returns-else-has_up-clause-none : goal.returns-else-has_up-clause-none
 returns-else-has_up-clause-none c =
-    let n : NodeState = node_of c.args.node.now in
+    let n : NodeState = node_of_fields c.args.node.now in
     let place = c.in-Some-InScope.place in
     let stands = subst (StandsAt n c.args.id) c.in-Some-InScope.field-0-is c.in-Some-InScope.ensures in
     let s = c.index.result.now in
@@ -35,13 +35,13 @@ returns-else-has_up-clause-none c =
 
 pub returns-in-Some-Lone-clause-none : goal.returns-in-Some-Lone-clause-none
 returns-in-Some-Lone-clause-none c =
-    let n : NodeState = node_of c.args.node.now in
+    let n : NodeState = node_of_fields c.args.node.now in
     let stands = subst (StandsAt n c.args.id) c.in-Some-Lone.field-0-is c.in-Some-Lone.ensures in
     lone_in_no_scope n c.args.id (above_with c.args.id) _ c.requires.node (owns_up c.args.id) stands
 
 pub returns-in-Some-Nowhere-clause-none : goal.returns-in-Some-Nowhere-clause-none
 returns-in-Some-Nowhere-clause-none c =
-    let n : NodeState = node_of c.args.node.now in
+    let n : NodeState = node_of_fields c.args.node.now in
     let stands = subst (StandsAt n c.args.id) c.in-Some-Nowhere.field-0-is c.in-Some-Nowhere.ensures in
     nowhere_in_scopes n c.args.id (above_with c.args.id) (owns_up c.args.id) stands
 

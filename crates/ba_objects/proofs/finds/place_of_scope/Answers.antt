@@ -2,8 +2,9 @@ use Rattle.std.proofs.Common.{◌≡◌, ◌∙◌, ap, sym, slice_get, Some, su
 use Rattle.ba_ends.proofs.Places.{found_if_some, none_if_none}
 use Rattle.ba_core.specs.declared.identifiers.Id.{Id}
 use Rattle.ba_ends.specs.Ends.{same_id}
-use Rattle.ba_objects.proofs.Spotted.{lone_in_no_scope, not_in_scope, owns_itself, scope_read, scope_spotted, scope_within, nowhere_in_scopes}
-use Rattle.ba_objects.specs.Objects.{node_of}
+use Rattle.ba_objects.proofs.Spotted.{lone_in_no_scope, not_in_scope, owns_itself, scope_read, scope_spotted, scope_within}
+use Rattle.ba_objects.proofs.Spotted.{nowhere_in_scopes}
+use Rattle.ba_objects.specs.Objects.{node_of_fields}
 use Rattle.ba_objects.specs.inside.Spots.{StandsAt}
 use Rattle.ba_scope.specs.Scope.{ScopeState}
 use Rattle.ba_steps.specs.Node.{NodeState}
@@ -11,7 +12,7 @@ use Rattle.ba_objects.proofs.finds.place_of_scope.Goals as goal
 
 pub returns-then-eq-clause-some : goal.returns-then-eq-clause-some
 returns-then-eq-clause-some c =
-    let n : NodeState = node_of c.args.node.now in
+    let n : NodeState = node_of_fields c.args.node.now in
     let place = c.in-Some-InScope.place in
     let stands = subst (StandsAt n c.args.id) c.in-Some-InScope.field-0-is c.in-Some-InScope.ensures in
     let s = c.index.result.now in
@@ -21,13 +22,13 @@ returns-then-eq-clause-some c =
 
 pub returns-then-eq-clause-within : goal.returns-then-eq-clause-within
 returns-then-eq-clause-within c =
-    let n : NodeState = node_of c.args.node.now in
+    let n : NodeState = node_of_fields c.args.node.now in
     let stands = subst (StandsAt n c.args.id) c.in-Some-InScope.field-0-is c.in-Some-InScope.ensures in
     scope_within n c.args.id c.in-Some-InScope.place stands
 
 pub returns-else-eq-clause-none : goal.returns-else-eq-clause-none
 returns-else-eq-clause-none c =
-    let n : NodeState = node_of c.args.node.now in
+    let n : NodeState = node_of_fields c.args.node.now in
     let place = c.in-Some-InScope.place in
     let stands = subst (StandsAt n c.args.id) c.in-Some-InScope.field-0-is c.in-Some-InScope.ensures in
     let s = c.index.result.now in
@@ -37,13 +38,13 @@ returns-else-eq-clause-none c =
 
 pub returns-in-Some-Lone-clause-none : goal.returns-in-Some-Lone-clause-none
 returns-in-Some-Lone-clause-none c =
-    let n : NodeState = node_of c.args.node.now in
+    let n : NodeState = node_of_fields c.args.node.now in
     let stands = subst (StandsAt n c.args.id) c.in-Some-Lone.field-0-is c.in-Some-Lone.ensures in
     lone_in_no_scope n c.args.id (λ (s : ScopeState). same_id s.id c.args.id) _ c.requires.node (owns_itself c.args.id) stands
 
 pub returns-in-Some-Nowhere-clause-none : goal.returns-in-Some-Nowhere-clause-none
 returns-in-Some-Nowhere-clause-none c =
-    let n : NodeState = node_of c.args.node.now in
+    let n : NodeState = node_of_fields c.args.node.now in
     let stands = subst (StandsAt n c.args.id) c.in-Some-Nowhere.field-0-is c.in-Some-Nowhere.ensures in
     nowhere_in_scopes n c.args.id (λ (s : ScopeState). same_id s.id c.args.id) (owns_itself c.args.id) stands
 

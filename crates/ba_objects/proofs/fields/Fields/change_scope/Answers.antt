@@ -2,13 +2,13 @@ use Rattle.std.proofs.Common.{◌<◌, ◌∙◌, length, refl}
 use Rattle.std.proofs.lemmas.Option.{slice_get_read}
 use Rattle.ba_objects.proofs.Applied.{scope_applied, scope_within}
 use Rattle.ba_objects.proofs.Counted.{counted_anew, few_in_scopes, one_within}
-use Rattle.ba_objects.specs.Objects.{in_memory, node_of}
+use Rattle.ba_objects.specs.Objects.{in_memory, node_of_fields}
 use Rattle.ba_steps.specs.Node.{NodeState}
 use Rattle.ba_objects.proofs.fields.Fields.change_scope.Goals as goal
 
 pub overflow_sub-self : goal.overflow_sub-self
 overflow_sub-self c =
-    let n : NodeState = node_of c.args.self.now in
+    let n : NodeState = node_of_fields c.args.self.now in
     let within : c.args.place < length n.scopes =
     scope_within (in_memory c.args.self.now) c.args.place c.args.change _ refl c.requires.suits in
     one_within n.scopes c.args.place c.index_mut-scope.result.now c.args.self.now.in_scopes c.ids_of-before.result within
@@ -16,7 +16,7 @@ overflow_sub-self c =
 
 pub returns-clause-node : goal.returns-clause-node
 returns-clause-node c =
-    let n : NodeState = node_of c.args.self.now in
+    let n : NodeState = node_of_fields c.args.self.now in
     let s = c.index_mut-scope.result.now in
     let within : c.args.place < length n.scopes =
     scope_within (in_memory c.args.self.now) c.args.place c.args.change _ refl c.requires.suits in
@@ -25,7 +25,7 @@ returns-clause-node c =
 
 pub returns-clause-count : goal.returns-clause-count
 returns-clause-count c =
-    let n : NodeState = node_of c.args.self.now in
+    let n : NodeState = node_of_fields c.args.self.now in
     let within : c.args.place < length n.scopes =
     scope_within (in_memory c.args.self.now) c.args.place c.args.change _ refl c.requires.suits in
     c.saturating_add-self.ensures
