@@ -35,8 +35,7 @@ end_cells m a b c d e f g = record {
   canceled = c;
   compensated = d;
   fail = e;
-  exit =
-      f;
+  exit = f;
   cannot_complete = g;
 }
 

@@ -35,8 +35,7 @@ part_cells m a b c d e f g = record {
   cancel = c;
   compensate = d;
   failed = e;
-  exited =
-      f;
+  exited = f;
   not_completed = g;
 }
 

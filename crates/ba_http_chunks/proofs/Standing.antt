@@ -172,8 +172,7 @@ module _ (c : Chunks) (l : SizeSoFar) (here : c.spot ≡ Line l) (fed body : Lis
       → Stands (record {
         spot = Line (record { place = place; length = l.length + 1; size = size });
         got = c.got;
-        count =
-            min (c.count + 1) (2 ^ 64 - 1);
+        count = min (c.count + 1) (2 ^ 64 - 1);
       })
       (fed ++ b ∷ []) body
   line_on short place size reads says = record {
@@ -370,8 +369,7 @@ module _ (c : Chunks) (here : c.spot ≡ Feed) (fed body : List ℕ) (s : Stands
       → Stands (record {
         spot = Line (record { place = First; length = 0; size = 0 });
         got = c.got;
-        count =
-            min (c.count + 1) (2 ^ 64 - 1);
+        count = min (c.count + 1) (2 ^ 64 - 1);
       })
       (fed ++ b ∷ []) body
   feed_taken is = record {

@@ -114,8 +114,7 @@ stands_last file hand records gate tail s none here is = (
     payloads = s.scanned.payloads;
     frames = s.scanned.frames;
     stops = none;
-    read =
-        s.scanned.read;
+    read = s.scanned.read;
   },
   omega (arith, here, s.bytes.within, length-drop hand.place file),
   is,

@@ -103,8 +103,7 @@ begun file long = record {
   frames = refl;
   read = refl;
   some = omega (arith, length-drop 16 file);
-  within =
-      omega (arith, length-drop 16 file);
+  within = omega (arith, length-drop 16 file);
 }
 
 pub gone_on : (file rest payload next : List ℕ) (records : List Record) (r : Record) → Scanned file rest records

@@ -209,8 +209,7 @@ module _ (file : List ℕ) (made : is_fresh file ≡ false) (headed : take 16 fi
             headed = headed;
             payloads = s.payloads;
             frames = s.frames;
-            stops =
-                is;
+            stops = is;
             read = s.read;
           },
         ),

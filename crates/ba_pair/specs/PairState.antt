@@ -48,8 +48,7 @@ abbrev pub state_of_pair : PairState → LinkState
 state_of_pair w = record {
   protocol = w.protocol;
   end = Some (record { state = w.end; verdict = w.verdict });
-  part =
-      w.part;
+  part = w.part;
   sealed = false;
 }
 

@@ -91,8 +91,7 @@ onward_decides {A = A} f next n m first second =
 
 ends : {A : Type 0} (a : A) → Decides (λ b. read a b) 0
 ends a = record {
-  by =
-      λ front more are enough. inl record { value = a; rest = front; here = refl; longer = refl; within = omega arith; are = are };
+  by = λ front more are enough. inl record { value = a; rest = front; here = refl; longer = refl; within = omega arith; are = are };
 }
 
 more_decides : {A : Type 0} (f : List ℕ → Reading A) (n m : ℕ) → n ≤ m → Decides f n → Decides f m

@@ -75,8 +75,7 @@ all_kept (a ∷ atts) h = by (marks_parameter a) refl (all_kept atts)
 pub unmarked_stays : (t : Tree) → not (list_any marks_parameter t.attributes) ≡ true → unmarked_tree t ≡ t
 unmarked_stays t h = λ i. record {
   name = t.name;
-  attributes =
-      all_kept t.attributes (no (list_any marks_parameter t.attributes) h) i;
+  attributes = all_kept t.attributes (no (list_any marks_parameter t.attributes) h) i;
   content = t.content;
 }
 

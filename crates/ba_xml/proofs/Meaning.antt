@@ -98,8 +98,7 @@ module _ (scope : List reader.Declaration) (s : Start) (o : Opening) (e : openin
       (λ i. Child (record {
         name = (is_meant i).name;
         attributes = (is_meant i).attributes;
-        content =
-            meaning ((is_meant i).declarations ++ scope) inside;
+        content = meaning ((is_meant i).declarations ++ scope) inside;
       }) ∷ meaning scope p)
       ∙ ap (λ cs. Child (record { name = o.name; attributes = o.attributes; content = cs }) ∷ meaning scope p) m
 

@@ -30,8 +30,7 @@ complete bytes tree x = by (to [] (holding document (Child tree ∷ []) []) (mod
     by : (r : Bool) × (run (reading.Going (record { state = state.At [] document mode.Begin; octet = Between; returned = false }) 0) bytes
         ≡ reading.Going (record {
           state = state.At [] (holding document (Child tree ∷ []) []) (mode.Inside Zero);
-          octet =
-              Between;
+          octet = Between;
           returned = r;
         }) (0 + length bytes)) → xml_answer bytes ≡ Ok tree
     by r = ap answer_of r.1 ∙ ap (answer_by (0 + length bytes)) (ended_tree tree)

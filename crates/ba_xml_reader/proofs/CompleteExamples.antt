@@ -30,8 +30,7 @@ start = record {
     left = [];
     right = [];
     quote = 39;
-    value =
-        value_character 49 (value_reference (decimal (codes "50")) value_end);
+    value = value_character 49 (value_reference (decimal (codes "50")) value_end);
   }) ∷ [];
 }
 
@@ -138,8 +137,7 @@ prefixed = record {
     left = [];
     right = [];
     quote = 39;
-    value =
-        value_character 117 value_end;
+    value = value_character 117 value_end;
   }) ∷ [];
 }
 
@@ -147,8 +145,7 @@ abbrev marked_document : Document
 marked_document = record {
   mark = true;
   heading = head single_quotes (encoding single_quotes (codes "UTF-8")) no_standalone [];
-  before =
-      misc_space 10 misc_end;
+  before = misc_space 10 misc_end;
   behind = misc_end;
   root = empty prefixed nothing;
 }
@@ -196,8 +193,7 @@ marked_explained = (
   record {
     name = marked_tree.name;
     attributes = [];
-    declarations =
-        (record { prefix = codes "p"; space = codes "u" }) ∷ [];
+    declarations = (record { prefix = codes "p"; space = codes "u" }) ∷ [];
   },
   refl,
 )

@@ -157,8 +157,7 @@ same_parts name other e = by (bytes_eq name.prefix other.prefix) (bytes_eq name.
     by : (x y : Bool) → bytes_eq name.prefix other.prefix ≡ x → bytes_eq name.local other.local ≡ y → (x && y) ≡ true → name ≡ other
     by true true p l e = λ i. record {
       prefix = (bytes_eq-Decides name.prefix other.prefix).0 p i;
-      local =
-          (bytes_eq-Decides name.local other.local).0 l i;
+      local = (bytes_eq-Decides name.local other.local).0 l i;
     }
     by true false p l e = absurd (true≢false (sym e))
     by false y p l e = absurd (true≢false (sym e))

@@ -187,8 +187,7 @@ plain_calm b h =
       one = all.0;
       no_return = no (b == 13) more.0;
       no_double = no (b == 34) apart.0;
-      no_apostrophe =
-          no (b == 39) apart.1;
+      no_apostrophe = no (b == 39) apart.1;
       kind = quotes.1;
     }
 

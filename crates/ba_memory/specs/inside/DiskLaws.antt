@@ -221,8 +221,7 @@ rearmed_keeps armament a =
       seen_same = refl;
       no_more = λ c left. left;
       no_fewer = λ c left. left;
-      calls_same =
-          refl;
+      calls_same = refl;
       faults_same = refl;
     }
 

@@ -34,8 +34,7 @@ child_level o bytes = record {
   name = o.name;
   attributes = o.attributes;
   declarations = o.declarations;
-  content =
-      [];
+  content = [];
   text = [];
 }
 

@@ -39,8 +39,7 @@ document = record {
   name = record { space = []; local = [] };
   attributes = [];
   declarations = first_scope;
-  content =
-      [];
+  content = [];
   text = [];
 }
 

@@ -15,8 +15,7 @@ returns-in-Ok-clause-any_moment g c =
     let frame : IsFrameOf c.as_slice.result.now r =
     record {
       in_range = c.requires.in_range;
-      bytes =
-          c.as_slice.ensures ∙ ap (λ (room : RoomValue). room.bytes) c.put_behind_gate.ensures;
+      bytes = c.as_slice.ensures ∙ ap (λ (room : RoomValue). room.bytes) c.put_behind_gate.ensures;
     } in
     subst (λ j. IsTrue (D.follows j.disk) → (records : List Record) → IsSettled D.seen D.may_leave j.disk j.gate records
     → LeavesOnly D.later D.left_between j.disk c.put_frame.new.disk (StandsWithOrWithout records r)) c.self.view_is
@@ -40,8 +39,7 @@ returns-in-Err-clause-any_moment g c =
     let frame : IsFrameOf c.as_slice.result.now r =
     record {
       in_range = c.requires.in_range;
-      bytes =
-          c.as_slice.ensures ∙ ap (λ (room : RoomValue). room.bytes) c.put_behind_gate.ensures;
+      bytes = c.as_slice.ensures ∙ ap (λ (room : RoomValue). room.bytes) c.put_behind_gate.ensures;
     } in
     subst (λ j. IsTrue (D.follows j.disk) → (records : List Record) → IsSettled D.seen D.may_leave j.disk j.gate records
     → LeavesOnly D.later D.left_between j.disk c.put_frame.new.disk (StandsWithOrWithout records r)) c.self.view_is
