@@ -1,14 +1,14 @@
 //! The answers to rows: what envelopes mean, why they are refused, and what is written of them.
 ghost use Rattle.std.specs.Prelude.{IsTrue};
-ghost use Rattle.ba_wire.specs.Envelopes.{HasEnvelope, is_known};
+ghost use Rattle.ba_wire.specs.Envelopes.{CanEncode, HasEnvelope, is_known};
 
 use crate::rows::envelope_bytes;
-use ba_core::{Kind, List, Notice, Protocol, name_of};
+use ba_canonical::{decode, encode};
+use ba_core::{Kind, Notice, Protocol, name_of};
 use ba_message::{Context, Message};
 use ba_soap::{Header, SoapFault};
-use ba_tree::Tree;
-use ba_wire::{Decoded, Route, WireFault, decode, envelope_tree, is_known};
-use ba_xml::{writable, write};
+use ba_wire::{Decoded, Route, WireFault, envelope_tree, is_known};
+use ba_xml::writable;
 use std::alloc::{AllocError, Global};
 use table_trees::{
     put_bytes, put_context, put_endpoint, put_expiry, put_kind, put_named, put_trees,
@@ -53,19 +53,22 @@ fn put_canonical(alloc: Global, decoded: &Decoded, out: &mut String) -> Result<(
     }
     match envelope_tree(alloc, &decoded.route, &decoded.message) {
         Err(_) => Err(AllocError),
-        Ok(tree) => put_text_of(alloc, &tree, out),
+        Ok(tree) => {
+            if !writable(&tree) {
+                return out.push_str("unwritable");
+            }
+            put_text_of(alloc, decoded, out)
+        }
     }
 }
 
-/// Appends the canonical text of a tree, or that it is past the limits.
-fn put_text_of(alloc: Global, tree: &Tree, out: &mut String) -> Result<(), AllocError> {
-    if !writable(tree) {
-        return out.push_str("unwritable");
-    }
-    let mut text = List::new(alloc);
-    match write(alloc, tree, &mut text) {
+/// Appends the canonical text of a message in its envelope.
+fn put_text_of(alloc: Global, decoded: &Decoded, out: &mut String) -> Result<(), AllocError>
+    requires { CanEncode decoded.now.route decoded.now.message }
+{
+    match encode(alloc, &decoded.route, &decoded.message) {
         Err(_) => Err(AllocError),
-        Ok(()) => put_bytes(text.as_slice(), out),
+        Ok(text) => put_bytes(text.as_slice(), out),
     }
 }
 

@@ -1,0 +1,5 @@
+pub mod DirectEnvelopes
+pub mod DirectTexts
+pub mod NoFurther
+pub mod PostedMessages
+pub mod ReadAgain
