@@ -1,11 +1,11 @@
 -- Which faults have which status, for the clauses of `run` that speak of statuses.
 use Rattle.std.proofs.Common.{◌≡◌, ◌<◌, refl, arith}
-use Rattle.ba_check.specs.declared.checks.CheckFault.{CheckFault}
-use Rattle.ba_check.specs.declared.checks.CheckFault.TheVariants as check
-use Rattle.ba_listing.specs.declared.journals.ListFault.{ListFault}
-use Rattle.ba_listing.specs.declared.journals.ListFault.TheVariants as list
-use Rattle.ba_replay.specs.declared.faults.ReplayFault.{ReplayFault}
-use Rattle.ba_replay.specs.declared.faults.ReplayFault.TheVariants as replay
+use Rattle.ba_cmd_check.specs.declared.checks.CheckFault.{CheckFault}
+use Rattle.ba_cmd_check.specs.declared.checks.CheckFault.TheVariants as check
+use Rattle.ba_cmd_journal.specs.declared.journals.ListFault.{ListFault}
+use Rattle.ba_cmd_journal.specs.declared.journals.ListFault.TheVariants as list
+use Rattle.ba_cmd_replay.specs.declared.faults.ReplayFault.{ReplayFault}
+use Rattle.ba_cmd_replay.specs.declared.faults.ReplayFault.TheVariants as replay
 use Rattle.ba.specs.Notes.{replay_status, check_status, list_status, status_of, IsStatus}
 use Rattle.ba.specs.Run.{IsFaultOf}
 use Rattle.ba.specs.declared.command.Command.{Command}

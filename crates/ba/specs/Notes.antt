@@ -2,16 +2,16 @@
 use Rattle.std.specs.Prelude.{ℕ, IsTrue, List, [], ◌∷◌, ◌++◌, nat_eq, codes}
 use Rattle.std.specs.Fmt.{decimal}
 use Rattle.std.specs.List.{list_any}
-use Rattle.ba_check.specs.declared.checks.CheckFault.{CheckFault}
-use Rattle.ba_check.specs.declared.checks.CheckFault.TheVariants as check
+use Rattle.ba_cmd_check.specs.declared.checks.CheckFault.{CheckFault}
+use Rattle.ba_cmd_check.specs.declared.checks.CheckFault.TheVariants as check
 use Rattle.ba_soap.specs.declared.headers.SoapFault.{SoapFault}
 use Rattle.ba_soap.specs.declared.headers.SoapFault.TheVariants as soap
 use Rattle.ba_wire.specs.declared.faults.WireFault.{WireFault}
 use Rattle.ba_wire.specs.declared.faults.WireFault.TheVariants as wire
-use Rattle.ba_listing.specs.declared.journals.ListFault.{ListFault}
-use Rattle.ba_listing.specs.declared.journals.ListFault.TheVariants as list
-use Rattle.ba_replay.specs.declared.faults.ReplayFault.{ReplayFault}
-use Rattle.ba_replay.specs.declared.faults.ReplayFault.TheVariants as replay
+use Rattle.ba_cmd_journal.specs.declared.journals.ListFault.{ListFault}
+use Rattle.ba_cmd_journal.specs.declared.journals.ListFault.TheVariants as list
+use Rattle.ba_cmd_replay.specs.declared.faults.ReplayFault.{ReplayFault}
+use Rattle.ba_cmd_replay.specs.declared.faults.ReplayFault.TheVariants as replay
 use Rattle.ba_xml_words.specs.declared.faults.Reason.{Reason}
 use Rattle.ba_xml_words.specs.declared.faults.Reason.TheVariants as reason
 use Rattle.ba.specs.declared.notes.RunFault.{RunFault}

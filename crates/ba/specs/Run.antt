@@ -1,13 +1,13 @@
 -- Believe: what `run` promises, by the command that the words ask for and by the fault that stopped it.
 use Rattle.std.specs.Prelude.{◌≡◌, ℕ, ◌+◌, List, [], Option, IfSome}
-use Rattle.ba_check.specs.Checks.{IsReport, StopsCheck}
-use Rattle.ba_check.specs.declared.checks.TheConstants.{MOST_TEXT}
-use Rattle.ba_listing.specs.Journals.{IsListing, StopsListing}
-use Rattle.ba_listing.specs.declared.journals.TheConstants.{MOST_FILE}
-use Rattle.ba_memory.specs.DiskValue.{DiskValue}
+use Rattle.ba_cmd_check.specs.Checks.{IsReport, StopsCheck}
+use Rattle.ba_cmd_check.specs.declared.checks.TheConstants.{MOST_TEXT}
+use Rattle.ba_cmd_journal.specs.Journals.{IsListing, StopsListing}
+use Rattle.ba_cmd_journal.specs.declared.journals.TheConstants.{MOST_FILE}
+use Rattle.ba_ports_memory.specs.DiskValue.{DiskValue}
 use Rattle.ba_ports.specs.Whole.{WritesOne}
-use Rattle.ba_replay.specs.Replay.{PrintsWhole, StopsReplay, most_of_script}
-use Rattle.ba_replay.specs.WorldReplay.{HandsOut, LeavesDisks}
+use Rattle.ba_cmd_replay.specs.Replay.{PrintsWhole, StopsReplay, most_of_script}
+use Rattle.ba_cmd_replay.specs.WorldReplay.{HandsOut, LeavesDisks}
 use Rattle.ba.specs.Command.{AsksFor}
 use Rattle.ba.specs.Notes.{note_text, status_of}
 use Rattle.ba.specs.declared.command.Command.{Command}

@@ -9,7 +9,7 @@ mod run;
 mod tests;
 
 use ba_core::List;
-use ba_system::{ReadSource, WriteSink};
+use ba_ports_system::{ReadSource, WriteSink};
 use notes::{RunFault, refuse};
 use run::run;
 use std::alloc::Global;

@@ -6,10 +6,10 @@ ghost use Rattle.ba.specs.Notes.{message_note, note_text, reason_number, replay_
 ghost use Rattle.ba_ports.specs.Outputs.{WritesPart};
 ghost use Rattle.ba_ports.specs.Whole.{FailsToWrite, WritesOrFails};
 
-use ba_check::CheckFault;
-use ba_listing::ListFault;
+use ba_cmd_check::CheckFault;
+use ba_cmd_journal::ListFault;
+use ba_cmd_replay::ReplayFault;
 use ba_ports::{NotWritten, Sink, write_all};
-use ba_replay::ReplayFault;
 use ba_soap::SoapFault;
 use ba_wire::WireFault;
 use ba_xml::Reason;

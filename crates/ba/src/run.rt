@@ -10,12 +10,12 @@ ghost use Rattle.ba_ports.specs.Whole.{FailsToWrite, WritesOrFails};
 
 use crate::command::{Command, command_of};
 use crate::notes::{RunFault, refuse};
-use ba_check::check;
+use ba_cmd_check::check;
+use ba_cmd_journal::journal;
+use ba_cmd_replay::replay;
 use ba_core::List;
-use ba_listing::journal;
-use ba_memory::MemDisk;
 use ba_ports::{Sink, Source};
-use ba_replay::replay;
+use ba_ports_memory::MemDisk;
 use std::alloc::Global;
 
 /// Does what the words ask for, and returns the status of the program: `replay` reads a script of a pair or of a world

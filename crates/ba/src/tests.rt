@@ -2,7 +2,7 @@
 
 use crate::run::run;
 use ba_core::{List, Octets};
-use ba_memory::{Out, Text};
+use ba_ports_memory::{Out, Text};
 use std::alloc::{AllocError, Global};
 use std::test::Fail;
 

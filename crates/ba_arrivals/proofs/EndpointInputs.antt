@@ -10,9 +10,9 @@ use Rattle.ba_core.specs.declared.protocols.Side.TheVariants.{Coordinator, Parti
 use Rattle.ba_message.specs.Endpoints.{same_epr}
 use Rattle.ba_message.specs.declared.messages.Letter.{Letter}
 use Rattle.ba_message.specs.declared.messages.Message.{Message}
-use Rattle.ba_play.specs.Arrivals.{input_by_address, letter_input, notice_input, register_input}
-use Rattle.ba_steps.specs.Addresses.{coordinator_of, participant_of, registration_of}
-use Rattle.ba_steps.specs.Node.{NodeState}
+use Rattle.ba_world_play.specs.Arrivals.{input_by_address, letter_input, notice_input, register_input}
+use Rattle.ba_node_steps.specs.Addresses.{coordinator_of, participant_of, registration_of}
+use Rattle.ba_node_steps.specs.Node.{NodeState}
 
 module _ (id : Id) (m : Message) where
   by_tests : (a b c : Bool)

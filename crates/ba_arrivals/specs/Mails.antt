@@ -1,6 +1,6 @@
 -- Believe: a message that was sent, as definitions have it.
 use Rattle.ba_arrivals.specs.declared.mails.Mail.{Mail}
-use Rattle.ba_runs.specs.World as runs
+use Rattle.ba_world_runs.specs.World as runs
 use Rattle.ba_arrivals.specs.declared.mails.Mail.TheVariants as mail
 
 -- a message of the bag, as definitions have it

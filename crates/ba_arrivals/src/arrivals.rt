@@ -1,15 +1,15 @@
 //! Where a message goes, and the input to which it leads there.
 ghost use Rattle.std.specs.Prelude.{◌≡◌, IfOk};
-ghost use Rattle.ba_play.specs.Arrivals.{answer_input, digit_value, identifier_in, letter_input, notice_input, register_input, told_input, with_hex_digit};
+ghost use Rattle.ba_world_play.specs.Arrivals.{answer_input, digit_value, identifier_in, letter_input, notice_input, register_input, told_input, with_hex_digit};
 ghost use Rattle.ba_arrivals.specs.inside.Endpoints.{object_endpoint, input_at};
 ghost use Rattle.ba_message.specs.Endpoints.{same_epr};
-ghost use Rattle.ba_steps.specs.Addresses.{coordinator_of, participant_of, registration_of, sender_of};
-ghost use Rattle.ba_steps.specs.Node.{NodeState};
+ghost use Rattle.ba_node_steps.specs.Addresses.{coordinator_of, participant_of, registration_of, sender_of};
+ghost use Rattle.ba_node_steps.specs.Node.{NodeState};
 
-use ba_addresses::{CODE_OF_REGISTER, coordinator_of, participant_of, registration_of};
 use ba_core::{Id, Memory, Side};
 use ba_message::{Epr, Letter, Message};
-use ba_steps::Input;
+use ba_node_addresses::{CODE_OF_REGISTER, coordinator_of, participant_of, registration_of};
+use ba_node_steps::Input;
 use std::alloc::Global;
 
 /// The identifier that the last 36 bytes of an address write, if they write one.

@@ -3,10 +3,10 @@ ghost use Rattle.std.specs.Prelude.{◌≡◌, IfOk, IsTrue};
 ghost use Rattle.ba_message.specs.Letters.{IsPostable, IsReply};
 ghost use Rattle.ba_wire.specs.Envelopes.{CanEncode, TimesFit, is_numbered};
 
-use ba_canonical::{decode, encode};
 use ba_core::{Id, List, Memory, Octets};
 use ba_message::{Epr, Letter, Message};
 use ba_wire::{Decoded, Route, number_urn, route_of};
+use ba_wire_short::{decode, encode};
 use std::alloc::Global;
 
 /// A message that was sent: a letter, or the answer to the letter with this number.

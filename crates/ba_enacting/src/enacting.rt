@@ -1,14 +1,14 @@
 //! A record is enacted again, for a load.
 ghost use Rattle.std.specs.Prelude.{◌≡◌, IfOk, None, Ok, OnErr, Some, true, false};
-ghost use Rattle.ba_objects.specs.Changes.{Suits};
+ghost use Rattle.ba_node_objects.specs.Changes.{Suits};
 ghost use Rattle.ba_enacting.specs.inside.Enacting.{told_change, told_event};
-ghost use Rattle.ba_steps.specs.Fits.{HasSpareCounters};
-ghost use Rattle.ba_steps.specs.Lawful.{after_record, change, is_next};
+ghost use Rattle.ba_node_steps.specs.Fits.{HasSpareCounters};
+ghost use Rattle.ba_node_steps.specs.Lawful.{after_record, change, is_next};
 
 use crate::events::{Event, event_of};
 use ba_core::Memory;
-use ba_objects::{Change, Objects};
-use ba_plans::{next_id, plan, tick};
+use ba_node_objects::{Change, Objects};
+use ba_node_plans::{next_id, plan, tick};
 use ba_record::Record;
 
 /// What is to be made of a node again, and the record that is kept of it.

@@ -2,16 +2,16 @@
 ghost use Rattle.std.specs.Prelude.{◌≡◌};
 ghost use Rattle.std.specs.Option.{option_map};
 ghost use Rattle.ba_enacting.specs.inside.Enacting.{told_event};
-ghost use Rattle.ba_steps.specs.Lawful.{act_event, chosen_event, create_event, current_context, event_of, notice_event, refused_event};
-ghost use Rattle.ba_steps.specs.Node.{id_at, part_place, upward};
+ghost use Rattle.ba_node_steps.specs.Lawful.{act_event, chosen_event, create_event, current_context, event_of, notice_event, refused_event};
+ghost use Rattle.ba_node_steps.specs.Node.{id_at, part_place, upward};
 ghost use Rattle.ba_scope.specs.Scope.{ScopeState};
-ghost use Rattle.ba_ends.specs.declared.parts.Part.{Part};
+ghost use Rattle.ba_scope_ends.specs.declared.parts.Part.{Part};
 
 use ba_core::{Act, Code, Id, Kind, Leave, List, Notice, Protocol, Side, Verdict};
 use ba_message::{Context, Epr};
-use ba_objects::Objects;
+use ba_node_objects::Objects;
+use ba_node_steps::Input;
 use ba_record::Record;
-use ba_steps::Input;
 use std::alloc::Global;
 
 // At the last moment of all each deadline is past.

@@ -19,11 +19,11 @@ use Rattle.ba_record.specs.Coding.{InRange, coding}
 use Rattle.ba_record.specs.Endpoints.{IsBase}
 use Rattle.ba_record.specs.declared.records.Record.{Record}
 use Rattle.ba_record.specs.declared.records.Record.TheVariants as journal
-use Rattle.ba_steps.specs.Lawful.{AreFew}
-use Rattle.ba_steps.specs.Node.{NodeState, last, new_node}
-use Rattle.ba_steps.proofs.FewObjects.{replay_last}
-use Rattle.ba_steps.proofs.Replayed.{replay_fits}
-use Rattle.ba_steps.proofs.StepsFit.{new_fits}
+use Rattle.ba_node_steps.specs.Lawful.{AreFew}
+use Rattle.ba_node_steps.specs.Node.{NodeState, last, new_node}
+use Rattle.ba_node_steps.proofs.FewObjects.{replay_last}
+use Rattle.ba_node_steps.proofs.Replayed.{replay_fits}
+use Rattle.ba_node_steps.proofs.StepsFit.{new_fits}
 
 err_is_no_disk : {T : Type 0} (none : Result T LoadFault) (why : LoadFault) → why ≢ fault.Disk
     → let told : Result T LoadFault = Err why in told ≡ Err fault.Disk → ⊥

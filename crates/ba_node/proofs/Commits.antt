@@ -15,15 +15,15 @@ use Rattle.ba_record.specs.Coding.{InRange, coding}
 use Rattle.ba_record.specs.declared.records.Record.{Record}
 use Rattle.ba_record.specs.declared.records.Record.TheVariants as journal
 use Rattle.ba_record.specs.Endpoints.{IsBase}
-use Rattle.ba_steps.specs.Endpoints.{AllReachable}
-use Rattle.ba_steps.specs.Fits.{HasSpareCounters, NodeFits}
-use Rattle.ba_steps.specs.Lawful.{Change, change}
-use Rattle.ba_steps.specs.Node.{NodeState, SameNode, last}
-use Rattle.ba_steps.proofs.EndpointsKept.{step_reaches}
-use Rattle.ba_steps.proofs.InRange.{in_range}
-use Rattle.ba_steps.proofs.SameNode.{step_keeps}
-use Rattle.ba_steps.proofs.StepsFit.{step_fits, step_makes_few}
-use Rattle.ba_steps.proofs.Unchanged.{unchanged}
+use Rattle.ba_node_steps.specs.Endpoints.{AllReachable}
+use Rattle.ba_node_steps.specs.Fits.{HasSpareCounters, NodeFits}
+use Rattle.ba_node_steps.specs.Lawful.{Change, change}
+use Rattle.ba_node_steps.specs.Node.{NodeState, SameNode, last}
+use Rattle.ba_node_steps.proofs.EndpointsKept.{step_reaches}
+use Rattle.ba_node_steps.proofs.InRange.{in_range}
+use Rattle.ba_node_steps.proofs.SameNode.{step_keeps}
+use Rattle.ba_node_steps.proofs.StepsFit.{step_fits, step_makes_few}
+use Rattle.ba_node_steps.proofs.Unchanged.{unchanged}
 
 -- ---- what holds of the node
 

@@ -12,16 +12,16 @@ use Rattle.ba_node.specs.inside.Beginnings.{IsReplay}
 use Rattle.ba_record.specs.Coding.{InRange}
 use Rattle.ba_record.specs.declared.records.Record.{Record}
 use Rattle.ba_record.specs.declared.records.Record.TheVariants as journal
-use Rattle.ba_steps.specs.Endpoints.{AllReachable}
-use Rattle.ba_steps.specs.Fits.{HasSpareCounters, NodeFits}
-use Rattle.ba_steps.specs.Lawful.{AreFew, IsStepOf, Replays, after_record, change}
-use Rattle.ba_steps.specs.Node.{NodeState, SameNode, last, new_node}
-use Rattle.ba_steps.proofs.Enacted.{step_of}
-use Rattle.ba_steps.proofs.FewObjects.{replay_last}
-use Rattle.ba_steps.proofs.Members.{all_left, all_right}
-use Rattle.ba_steps.proofs.RecordsGive.{after_reaches}
-use Rattle.ba_steps.proofs.Replayed.{goes_on, replay_fits}
-use Rattle.ba_steps.proofs.SameNode.{step_keeps}
+use Rattle.ba_node_steps.specs.Endpoints.{AllReachable}
+use Rattle.ba_node_steps.specs.Fits.{HasSpareCounters, NodeFits}
+use Rattle.ba_node_steps.specs.Lawful.{AreFew, IsStepOf, Replays, after_record, change}
+use Rattle.ba_node_steps.specs.Node.{NodeState, SameNode, last, new_node}
+use Rattle.ba_node_steps.proofs.Enacted.{step_of}
+use Rattle.ba_node_steps.proofs.FewObjects.{replay_last}
+use Rattle.ba_node_steps.proofs.Members.{all_left, all_right}
+use Rattle.ba_node_steps.proofs.RecordsGive.{after_reaches}
+use Rattle.ba_node_steps.proofs.Replayed.{goes_on, replay_fits}
+use Rattle.ba_node_steps.proofs.SameNode.{step_keeps}
 
 -- the node's own record, and then all others
 abbrev own : NodeState → Record

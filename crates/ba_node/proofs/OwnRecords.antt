@@ -13,13 +13,13 @@ use Rattle.ba_node.specs.declared.faults.LoadFault.TheVariants as fault
 use Rattle.ba_record.specs.Coding.{InRange}
 use Rattle.ba_record.specs.declared.records.Record.{Record}
 use Rattle.ba_record.specs.declared.records.Record.TheVariants as journal
-use Rattle.ba_steps.specs.Fits.{NodeFits}
-use Rattle.ba_steps.specs.Lawful.{AreFew, Event, IsStepOf, LeadsTo, Replays, after_record, change}
-use Rattle.ba_steps.specs.Node.{NodeState, SameNode, new_node}
-use Rattle.ba_steps.proofs.Members.{all_left}
-use Rattle.ba_steps.proofs.Reenacted.{after_of}
-use Rattle.ba_steps.proofs.Replayed.{goes_on, one_replay, replay_fits}
-use Rattle.ba_steps.proofs.SameNode.{step_keeps}
+use Rattle.ba_node_steps.specs.Fits.{NodeFits}
+use Rattle.ba_node_steps.specs.Lawful.{AreFew, Event, IsStepOf, LeadsTo, Replays, after_record, change}
+use Rattle.ba_node_steps.specs.Node.{NodeState, SameNode, new_node}
+use Rattle.ba_node_steps.proofs.Members.{all_left}
+use Rattle.ba_node_steps.proofs.Reenacted.{after_of}
+use Rattle.ba_node_steps.proofs.Replayed.{goes_on, one_replay, replay_fits}
+use Rattle.ba_node_steps.proofs.SameNode.{step_keeps}
 
 none_is_no_some : {A : Type 0} (x : A) → ◌≡◌ {A = Option A} None (Some x) → ⊥
 none_is_no_some x is = cc

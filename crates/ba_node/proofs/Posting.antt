@@ -17,11 +17,11 @@ use Rattle.ba_message.specs.declared.messages.Message.TheVariants as message
 use Rattle.ba_node.specs.Posting.{LeavesRoom}
 use Rattle.ba_node.specs.declared.faults.NodeFault.{NodeFault}
 use Rattle.ba_record.specs.Endpoints.{IsBase}
-use Rattle.ba_steps.proofs.PathBytes.{joined_passes, text_passes}
-use Rattle.ba_steps.specs.Addresses.{hyphenated, participant_of}
-use Rattle.ba_steps.specs.Letters.{IsLetterOf, IsOwnMessage, is_known_notice}
-use Rattle.ba_steps.specs.Node.{NodeState}
-use Rattle.ba_steps.specs.declared.answers.Ticked.{Ticked}
+use Rattle.ba_node_steps.proofs.PathBytes.{joined_passes, text_passes}
+use Rattle.ba_node_steps.specs.Addresses.{hyphenated, participant_of}
+use Rattle.ba_node_steps.specs.Letters.{IsLetterOf, IsOwnMessage, is_known_notice}
+use Rattle.ba_node_steps.specs.Node.{NodeState}
+use Rattle.ba_node_steps.specs.declared.answers.Ticked.{Ticked}
 
 -- ---- the endpoint of a participant
 

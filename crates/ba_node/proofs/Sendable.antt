@@ -4,12 +4,12 @@ use Rattle.ba_core.specs.declared.identifiers.Id.{Id}
 use Rattle.ba_message.specs.declared.messages.Letter.{Letter}
 use Rattle.ba_node.specs.Answers.{IsLetterAtTick}
 use Rattle.ba_node.specs.declared.faults.NodeFault.{NodeFault}
-use Rattle.ba_steps.specs.Endpoints.{AllReachable}
-use Rattle.ba_steps.specs.Letters.{IsLetterOf}
-use Rattle.ba_steps.specs.Node.{NodeState}
-use Rattle.ba_steps.specs.Ticks.{TickStep, tick_step}
-use Rattle.ba_steps.specs.declared.answers.Ticked.{Ticked}
-use Rattle.ba_steps.proofs.LettersSent.{letter_is}
+use Rattle.ba_node_steps.specs.Endpoints.{AllReachable}
+use Rattle.ba_node_steps.specs.Letters.{IsLetterOf}
+use Rattle.ba_node_steps.specs.Node.{NodeState}
+use Rattle.ba_node_steps.specs.Ticks.{TickStep, tick_step}
+use Rattle.ba_node_steps.specs.declared.answers.Ticked.{Ticked}
+use Rattle.ba_node_steps.proofs.LettersSent.{letter_is}
 
 pub sendable : (n : NodeState) (now : ℕ) (id : Id) (step : TickStep) (result : Result Ticked NodeFault) → step ≡ tick_step n now id
     → AllReachable n

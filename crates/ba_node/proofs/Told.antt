@@ -8,7 +8,7 @@ use Rattle.ba_node.specs.inside.Commits.{Commits}
 use Rattle.ba_node.proofs.Moments.{nothing_asked}
 use Rattle.ba_ports.specs.declared.requests.Call.{Call}
 use Rattle.ba_record.specs.declared.records.Record.{Record}
-use Rattle.ba_steps.specs.Lawful.{Change}
+use Rattle.ba_node_steps.specs.Lawful.{Change}
 
 ok_is_no_err : {T : Type 0} (done : T) (why : NodeFault) → let told : Result T NodeFault = Ok done in told ≡ Err why → ⊥
 ok_is_no_err done why is = cc

@@ -4,11 +4,11 @@ use Rattle.ba_node.specs.Keeping.{IsPast, end_after}
 use Rattle.ba_node.specs.Nodes.{NodeOnJournal}
 use Rattle.ba_node.specs.declared.faults.NodeFault.{NodeFault}
 use Rattle.ba_node.specs.declared.faults.NodeFault.TheVariants as fault
-use Rattle.ba_steps.specs.Lawful.{Change}
-use Rattle.ba_steps.specs.Steps.{NodeStep}
-use Rattle.ba_steps.specs.Ticks.{TickStep}
-use Rattle.ba_steps.specs.declared.answers.Done.{Done}
-use Rattle.ba_steps.specs.declared.answers.Ticked.{Ticked}
+use Rattle.ba_node_steps.specs.Lawful.{Change}
+use Rattle.ba_node_steps.specs.Steps.{NodeStep}
+use Rattle.ba_node_steps.specs.Ticks.{TickStep}
+use Rattle.ba_node_steps.specs.declared.answers.Done.{Done}
+use Rattle.ba_node_steps.specs.declared.answers.Ticked.{Ticked}
 
 -- the node after the change, whose record is in the journal
 abbrev pub changed_on_journal : {D : Type 0} → NodeOnJournal D → D → Change → NodeOnJournal D

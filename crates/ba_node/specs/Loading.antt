@@ -20,8 +20,8 @@ use Rattle.ba_ports.specs.declared.requests.Request.TheVariants.{Sync}
 use Rattle.ba_record.specs.Coding.{InRange, coding}
 use Rattle.ba_record.specs.declared.records.Record.{Record}
 use Rattle.ba_record.specs.declared.records.Record.TheVariants as journal
-use Rattle.ba_steps.specs.Lawful.{AreFew, Replays, after_record}
-use Rattle.ba_steps.specs.Node.{NodeState}
+use Rattle.ba_node_steps.specs.Lawful.{AreFew, Replays, after_record}
+use Rattle.ba_node_steps.specs.Node.{NodeState}
 
 -- ---- the node's own record
 

@@ -3,9 +3,9 @@ use Rattle.std.specs.Prelude.{◌≡◌, ℕ, ◌+◌, ◌*◌, ◌<◌, ◌≤�
 use Rattle.std.specs.Coded.{Coded, code_by, coded×, coded_ℕ, coded_option}
 use Rattle.ba_journal.specs.Journals.{JournalValue}
 use Rattle.ba_record.specs.Endpoints.{IsBase}
-use Rattle.ba_steps.specs.Endpoints.{AllReachable}
-use Rattle.ba_steps.specs.Fits.{NodeFits}
-use Rattle.ba_steps.specs.Node.{NodeState, last}
+use Rattle.ba_node_steps.specs.Endpoints.{AllReachable}
+use Rattle.ba_node_steps.specs.Fits.{NodeFits}
+use Rattle.ba_node_steps.specs.Node.{NodeState, last}
 
 -- a node, and the journal that it keeps
 pub record NodeOnJournal (D : Type 0) : Type 0 where

@@ -13,7 +13,7 @@ use crate::keeping::keep_some;
 use crate::replaying::replay;
 use ba_core::{List, Octets};
 use ba_journal::Journal;
-use ba_objects::Objects;
+use ba_node_objects::Objects;
 use ba_ports::Disk;
 use ba_record::Record;
 use std::alloc::Global;

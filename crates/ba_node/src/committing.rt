@@ -2,12 +2,12 @@
 ghost use Rattle.std.specs.Prelude.{◌≡◌, None};
 ghost use Rattle.ba_node.specs.Nodes.{NodeHolds, on_journal};
 ghost use Rattle.ba_node.specs.inside.Commits.{Commits, IsDue};
-ghost use Rattle.ba_objects.specs.Changes.{Suits, changed_node};
+ghost use Rattle.ba_node_objects.specs.Changes.{Suits, changed_node};
 
 use crate::faults::NodeFault;
 use crate::keeping::keep_some;
 use ba_journal::Journal;
-use ba_objects::{Change, Objects};
+use ba_node_objects::{Change, Objects};
 use ba_ports::Disk;
 use ba_record::Record;
 

@@ -6,8 +6,8 @@ ghost use Rattle.ba_node.specs.Loading.{RefusesFile, RefusesLoad};
 ghost use Rattle.ba_node.specs.declared.faults.LoadFault.TheVariants as fault;
 ghost use Rattle.ba_node.specs.declared.faults.LoadFault.{LoadFault};
 ghost use Rattle.ba_record.specs.declared.records.Record.{Record};
-ghost use Rattle.ba_steps.specs.Lawful.{Event, Replays, change};
-ghost use Rattle.ba_steps.specs.Node.{NodeState};
+ghost use Rattle.ba_node_steps.specs.Lawful.{Event, Replays, change};
+ghost use Rattle.ba_node_steps.specs.Node.{NodeState};
 
 /// The records of which a node is the replay are refused to that node for nothing but want of memory or a disk that failed.
 pub fn never_refused()

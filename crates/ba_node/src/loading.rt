@@ -12,7 +12,7 @@ ghost use Rattle.ba_ports.specs.declared.requests.Call.{Call};
 ghost use Rattle.ba_record.specs.Coding.{InRange};
 ghost use Rattle.ba_record.specs.Endpoints.{IsBase};
 ghost use Rattle.ba_record.specs.declared.records.Record.{Record};
-ghost use Rattle.ba_steps.specs.Lawful.{Replays};
+ghost use Rattle.ba_node_steps.specs.Lawful.{Replays};
 
 use crate::beginning::begin;
 use crate::faults::LoadFault;

@@ -11,23 +11,23 @@ ghost use Rattle.ba_ports.specs.Causes.{Rose};
 ghost use Rattle.ba_ports.specs.Disk.{LeavesOnly, fail, stop, nothing};
 ghost use Rattle.ba_ports.specs.declared.requests.Call.{Call};
 ghost use Rattle.ba_record.specs.declared.records.Record.{Record as Kept};
-ghost use Rattle.ba_steps.specs.Endpoints.{GivesFit};
-ghost use Rattle.ba_steps.specs.Fits.{HasSpareCounters, NodeFits};
-ghost use Rattle.ba_steps.specs.Lawful.{change, given, ticked};
-ghost use Rattle.ba_steps.specs.Letters.{IsLetterOf};
-ghost use Rattle.ba_steps.specs.Node.{last};
-ghost use Rattle.ba_steps.specs.Shown.{deadline_of, in_scope, seen_at};
-ghost use Rattle.ba_steps.specs.Steps.{node_step};
-ghost use Rattle.ba_steps.specs.Ticks.{tick_step};
+ghost use Rattle.ba_node_steps.specs.Endpoints.{GivesFit};
+ghost use Rattle.ba_node_steps.specs.Fits.{HasSpareCounters, NodeFits};
+ghost use Rattle.ba_node_steps.specs.Lawful.{change, given, ticked};
+ghost use Rattle.ba_node_steps.specs.Letters.{IsLetterOf};
+ghost use Rattle.ba_node_steps.specs.Node.{last};
+ghost use Rattle.ba_node_steps.specs.Shown.{deadline_of, in_scope, seen_at};
+ghost use Rattle.ba_node_steps.specs.Steps.{node_step};
+ghost use Rattle.ba_node_steps.specs.Ticks.{tick_step};
 
 use crate::faults::NodeFault;
 use crate::taking::{take_step, take_tick};
 use ba_core::Id;
 use ba_journal::Journal;
-use ba_objects::Objects;
-use ba_plans::{plan, tick};
+use ba_node_objects::Objects;
+use ba_node_plans::{plan, tick};
+use ba_node_steps::{Done, Input, Seen, Ticked};
 use ba_ports::{Disk, Faulty, Image};
-use ba_steps::{Done, Input, Seen, Ticked};
 use std::marker::Model;
 
 /// A node, which is what the records of its journal lead to. When a call has answered Disk, each later one is refused, and
@@ -41,7 +41,7 @@ pub struct Node<D: Disk> {
 impl<D: Disk> Model for Node<D> {
     ghost use Rattle.ba_node.specs.Nodes.{NodeHolds, NodeOnJournal, node_code, on_journal};
     ghost use Rattle.ba_node.specs.inside.Stored.{state_code};
-    ghost use Rattle.ba_objects.specs.contracts.objects.Objects as in_memory;
+    ghost use Rattle.ba_node_objects.specs.contracts.objects.Objects as in_memory;
 
     ghost Value = { NodeOnJournal D };
 

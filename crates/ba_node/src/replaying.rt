@@ -7,13 +7,13 @@ ghost use Rattle.ba_node.specs.inside.Beginnings.{IsReplay};
 ghost use Rattle.ba_record.specs.Coding.{InRange};
 ghost use Rattle.ba_record.specs.declared.records.Record.TheVariants as kind;
 ghost use Rattle.ba_record.specs.declared.records.Record.{Record as Kept};
-ghost use Rattle.ba_steps.specs.Lawful.{AreFew};
-ghost use Rattle.ba_steps.specs.Node.{new_node};
+ghost use Rattle.ba_node_steps.specs.Lawful.{AreFew};
+ghost use Rattle.ba_node_steps.specs.Node.{new_node};
 
 use crate::faults::LoadFault;
 use ba_core::{List, Octets};
 use ba_enacting::enact;
-use ba_objects::Objects;
+use ba_node_objects::Objects;
 use ba_record::Record;
 use std::alloc::Global;
 use std::collections::VecDeque;

@@ -2,17 +2,17 @@
 ghost use Rattle.std.specs.Prelude.{◌≡◌, None, IfOk};
 ghost use Rattle.ba_node.specs.Answers.{IsLetterAtTick, IsReplyOf};
 ghost use Rattle.ba_node.specs.Nodes.{NodeHolds, on_journal};
-ghost use Rattle.ba_plans.specs.Plans.{planned_step, planned_tick};
+ghost use Rattle.ba_node_plans.specs.Plans.{planned_step, planned_tick};
 ghost use Rattle.ba_node.specs.inside.Commits.{Commits, IsDue, due_by_step, due_by_tick};
-ghost use Rattle.ba_objects.specs.Changes.{Suits};
+ghost use Rattle.ba_node_objects.specs.Changes.{Suits};
 
 use crate::committing::commit;
 use crate::faults::NodeFault;
 use ba_journal::Journal;
-use ba_objects::Objects;
-use ba_plans::{Plan, TickPlan};
+use ba_node_objects::Objects;
+use ba_node_plans::{Plan, TickPlan};
+use ba_node_steps::{Done, Ticked};
 use ba_ports::Disk;
-use ba_steps::{Done, Ticked};
 
 /// The step of an input.
 pub fn take_step<D: Disk>(

@@ -37,14 +37,14 @@ use Rattle.ba_scope.specs.declared.answers.EnrolFault.TheVariants.{NotYetEnrolle
 use Rattle.ba_scope.specs.declared.answers.Said.{Said}
 use Rattle.ba_scope.specs.declared.answers.TheConstants.{ALREADY_DECIDED, NOT_READY, NOT_A_ROOT, WRONG_KIND, NO_SUCH_END, NOT_A_CHILD}
 use Rattle.ba_scope.specs.declared.answers.TheConstants.{NOT_DRAINED, WRONG_STATE}
-use Rattle.ba_ends.specs.declared.ends.End.{End}
-use Rattle.ba_ends.specs.declared.parts.Part.{Part}
-use Rattle.ba_ends.specs.Parts.{part_fits, part_in_state, enrolled_part, refused_part, tick_of_part, act_when_drained, state_after_act}
-use Rattle.ba_ends.specs.Parts.{is_enrolled_as, part_owing, part_asking, has_no_coordinator, is_registering}
+use Rattle.ba_scope_ends.specs.declared.ends.End.{End}
+use Rattle.ba_scope_ends.specs.declared.parts.Part.{Part}
+use Rattle.ba_scope_ends.specs.Parts.{part_fits, part_in_state, enrolled_part, refused_part, tick_of_part, act_when_drained, state_after_act}
+use Rattle.ba_scope_ends.specs.Parts.{is_enrolled_as, part_owing, part_asking, has_no_coordinator, is_registering}
 use Rattle.ba_scope.specs.Fits.{Above, goes_with, end_fits, above, are_apart, is_other_end, verdict_fits_above, verdict_goes, up_state}
 use Rattle.ba_scope.specs.Fits.{up_fits, ScopeFits}
-use Rattle.ba_ends.specs.Ends.{Tick, is_ready_for, end_with_verdict, end_with_verdict_if_none, end_in_state, new_end, tick_of_end}
-use Rattle.ba_ends.specs.Ends.{end_owing, end_asking, same_id, end_with_id, end_of, first_failing, is_ready_state, is_ended_state}
+use Rattle.ba_scope_ends.specs.Ends.{Tick, is_ready_for, end_with_verdict, end_with_verdict_if_none, end_in_state, new_end, tick_of_end}
+use Rattle.ba_scope_ends.specs.Ends.{end_owing, end_asking, same_id, end_with_id, end_of, first_failing, is_ready_state, is_ended_state}
 use Rattle.ba_scope.specs.Rules.{ScopeStep, refused_step, done_step, where_each_end, is_atomic, scope_with_verdict, decide, choose}
 use Rattle.ba_scope.specs.Rules.{choose_for, complete, complete_for, changed_at, with_end_changed, expire, is_expired, is_past}
 use Rattle.ba_scope.specs.Rules.{enrol_refusal, scope_with_end, with_up, finish, finish_for, leave_by, leave_for, leave_act, may_leave}

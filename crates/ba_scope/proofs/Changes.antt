@@ -4,9 +4,9 @@ use Rattle.ba_core.specs.EndRows.{end_row}
 use Rattle.ba_core.specs.declared.identifiers.Id.{Id}
 use Rattle.ba_core.specs.declared.notices.Notice.{Notice}
 use Rattle.ba_core.specs.declared.rows.CRow.{CRow}
-use Rattle.ba_ends.specs.declared.ends.End.{End}
+use Rattle.ba_scope_ends.specs.declared.ends.End.{End}
 use Rattle.ba_scope.specs.Fits.{are_apart}
-use Rattle.ba_ends.specs.Ends.{end_after_notice, end_asking, end_owing, settled_row, tick_of_end, end_with_id}
+use Rattle.ba_scope_ends.specs.Ends.{end_after_notice, end_asking, end_owing, settled_row, tick_of_end, end_with_id}
 use Rattle.ba_scope.specs.Rules.{ask, end_receive, owe, tick_end, with_end_changed}
 use Rattle.ba_scope.specs.Scope.{ScopeState}
 use Rattle.ba_scope.proofs.Lists.{some_branch}

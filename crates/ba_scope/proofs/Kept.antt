@@ -21,10 +21,10 @@ use Rattle.ba_core.specs.declared.states.PState.{PState}
 use Rattle.ba_link.specs.States.{part_among}
 use Rattle.ba_link.proofs.Everywhere.{only_if, where_asked, protocol_passes, parts, part_passes}
 use Rattle.ba_message.specs.declared.endpoints.Epr.{Epr}
-use Rattle.ba_ends.specs.declared.ends.End.{End}
-use Rattle.ba_ends.specs.declared.parts.Part.{Part}
-use Rattle.ba_ends.specs.Parts.{has_no_coordinator, verdict_on_the_way, state_after_row, part_in_state, part_fits}
-use Rattle.ba_ends.specs.Ends.{same_id, end_with_verdict, end_after_row, is_ready_for}
+use Rattle.ba_scope_ends.specs.declared.ends.End.{End}
+use Rattle.ba_scope_ends.specs.declared.parts.Part.{Part}
+use Rattle.ba_scope_ends.specs.Parts.{has_no_coordinator, verdict_on_the_way, state_after_row, part_in_state, part_fits}
+use Rattle.ba_scope_ends.specs.Ends.{same_id, end_with_verdict, end_after_row, is_ready_for}
 use Rattle.ba_scope.specs.Scope.{ScopeState, is_id_above, is_own_id}
 use Rattle.ba_scope.specs.Rules.{scope_with_verdict, end_with_verdict_if_any, with_up_moved, with_up, changed_at, with_end_changed}
 use Rattle.ba_scope.specs.Rules.{word_for}

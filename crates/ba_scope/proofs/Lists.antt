@@ -6,9 +6,9 @@ use Rattle.ba_core.specs.declared.protocols.Verdict.{Verdict}
 use Rattle.ba_core.specs.declared.protocols.Verdict.TheVariants.{Close, Undo}
 use Rattle.ba_core.specs.declared.states.CState.{CState}
 use Rattle.ba_scope.specs.Rules.{word_for, end_with_verdict_if_any, scope_with_verdict_if_any}
-use Rattle.ba_ends.specs.Ends.{first_failing}
+use Rattle.ba_scope_ends.specs.Ends.{first_failing}
 use Rattle.ba_scope.specs.Scope.{ScopeState}
-use Rattle.ba_ends.specs.declared.ends.End.{End}
+use Rattle.ba_scope_ends.specs.declared.ends.End.{End}
 
 -- by the answer of a test
 pub by_test : {X : Type 0} (P : X → Type 0) (b : Bool) (x y : X) → (b ≡ true → P x) → (b ≡ false → P y) → P (if b then x else y)

@@ -5,8 +5,8 @@ use Rattle.std.specs.List.{AllByRecursion}
 use Rattle.std.proofs.lemmas.Bool.{and_parts}
 use Rattle.ba_core.specs.EndRows.{is_end_state}
 use Rattle.ba_link.specs.Pairs.{verdict_fits_state}
-use Rattle.ba_ends.specs.declared.ends.End.{End}
-use Rattle.ba_ends.specs.Ends.{has_own_state, end_with_id, same_id}
+use Rattle.ba_scope_ends.specs.declared.ends.End.{End}
+use Rattle.ba_scope_ends.specs.Ends.{has_own_state, end_with_id, same_id}
 use Rattle.ba_scope.specs.Fits.{Above, above, end_fits, state_fits_above, verdict_fits_scope, ScopeFits}
 use Rattle.ba_core.specs.declared.identifiers.Id.{Id}
 use Rattle.ba_scope.specs.Scope.{ScopeState}

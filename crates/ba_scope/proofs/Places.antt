@@ -5,13 +5,13 @@ use Rattle.std.specs.List.{list_all}
 use Rattle.std.proofs.lemmas.Bool.{and_parts}
 use Rattle.std.proofs.lemmas.Bool.Decides.{nat_tests}
 use Rattle.ba_core.specs.declared.identifiers.Id.{Id}
-use Rattle.ba_ends.proofs.Places.{found_passes}
+use Rattle.ba_scope_ends.proofs.Places.{found_passes}
 use Rattle.ba_link.proofs.Everywhere.{at_place}
 use Rattle.ba_message.specs.Endpoints.{same_epr}
-use Rattle.ba_ends.specs.declared.ends.End.{End}
+use Rattle.ba_scope_ends.specs.declared.ends.End.{End}
 use Rattle.ba_scope.specs.Fits.{are_apart, is_other_end}
 use Rattle.ba_scope.specs.Rules.{changed_at, with_end_changed}
-use Rattle.ba_ends.specs.Ends.{end_with_id, same_id}
+use Rattle.ba_scope_ends.specs.Ends.{end_with_id, same_id}
 use Rattle.ba_scope.specs.Scope.{ScopeState}
 use Rattle.ba_scope.proofs.Lists.{by_test}
 

@@ -14,8 +14,8 @@ use Rattle.ba_core.specs.declared.states.CState.{CState}
 use Rattle.ba_core.specs.declared.states.PState.{PState}
 use Rattle.ba_scope.proofs.Calls.{atomic_is, by_option, is_absent}
 use Rattle.ba_scope.proofs.Lists.{by_test, none_fails}
-use Rattle.ba_ends.specs.Ends.{end_in_state, end_with_verdict, is_ready_for, end_with_id, first_failing, is_ended_state, is_ready_state}
-use Rattle.ba_ends.specs.Parts.{part_in_state}
+use Rattle.ba_scope_ends.specs.Ends.{end_in_state, end_with_verdict, is_ready_for, end_with_id, first_failing, is_ended_state, is_ready_state}
+use Rattle.ba_scope_ends.specs.Parts.{part_in_state}
 use Rattle.ba_scope.specs.Rules.{ScopeStep, choose, choose_for, complete, complete_for, decide, done_step, finish, finish_for, is_atomic}
 use Rattle.ba_scope.specs.Rules.{leave_act, leave_by, leave_for, may_leave, refused_step, scope_with_verdict, where_each_end}
 use Rattle.ba_scope.specs.Rules.{with_end_changed, with_up}
@@ -23,8 +23,8 @@ use Rattle.ba_scope.specs.Scope.{ScopeState}
 use Rattle.ba_scope.specs.declared.answers.Said.{Said}
 use Rattle.ba_scope.specs.declared.answers.TheConstants.{ALREADY_DECIDED, NOT_A_CHILD, NOT_A_ROOT, NOT_DRAINED, NOT_READY, NO_SUCH_END}
 use Rattle.ba_scope.specs.declared.answers.TheConstants.{WRONG_KIND, WRONG_STATE}
-use Rattle.ba_ends.specs.declared.ends.End.{End}
-use Rattle.ba_ends.specs.declared.parts.Part.{Part}
+use Rattle.ba_scope_ends.specs.declared.ends.End.{End}
+use Rattle.ba_scope_ends.specs.declared.parts.Part.{Part}
 
 mixed_if : (kind : Kind) → is_atomic kind ≡ false → kind ≡ Mixed
 mixed_if Atomic h = absurd (true≢false h)

@@ -24,11 +24,11 @@ use Rattle.ba_scope.specs.Calls.{by_refused, by_finish, by_leave, by_up_receive,
 use Rattle.ba_scope.specs.declared.answers.Said.{Said}
 use Rattle.ba_scope.specs.declared.answers.TheConstants.{ALREADY_DECIDED, NOT_READY, NOT_A_ROOT, WRONG_KIND, NO_SUCH_END, NOT_A_CHILD}
 use Rattle.ba_scope.specs.declared.answers.TheConstants.{NOT_DRAINED, WRONG_STATE}
-use Rattle.ba_ends.specs.declared.ends.End.{End}
-use Rattle.ba_ends.specs.declared.parts.Part.{Part}
-use Rattle.ba_ends.specs.Ends.{Tick, is_ready_for, end_owing, end_asking, end_with_id, first_failing, is_ended_state, is_ready_state}
-use Rattle.ba_ends.specs.Parts.{part_in_state, enrolled_part, refused_part, act_when_drained, state_after_act, state_after_row}
-use Rattle.ba_ends.specs.Parts.{is_enrolled_as, part_owing, part_asking, verdict_on_the_way, is_registering}
+use Rattle.ba_scope_ends.specs.declared.ends.End.{End}
+use Rattle.ba_scope_ends.specs.declared.parts.Part.{Part}
+use Rattle.ba_scope_ends.specs.Ends.{Tick, is_ready_for, end_owing, end_asking, end_with_id, first_failing, is_ended_state, is_ready_state}
+use Rattle.ba_scope_ends.specs.Parts.{part_in_state, enrolled_part, refused_part, act_when_drained, state_after_act, state_after_row}
+use Rattle.ba_scope_ends.specs.Parts.{is_enrolled_as, part_owing, part_asking, verdict_on_the_way, is_registering}
 use Rattle.ba_scope.specs.Rules.{ScopeStep, refused_step, done_step, where_each_end, is_atomic, scope_with_verdict, decide, choose}
 use Rattle.ba_scope.specs.Rules.{choose_for, complete, complete_for, expire, is_expired, enrol_refusal, with_up, finish, finish_for}
 use Rattle.ba_scope.specs.Rules.{leave_by, leave_for, leave_act, may_leave, enrolled_scope, refused_scope, end_receive, up_receive}

@@ -31,8 +31,8 @@ use Rattle.ba_link.specs.Pairs.{is_open}
 use Rattle.ba_link.proofs.Everywhere.{only_if, where_asked, protocols, protocol_passes, verdicts, verdict_passes, ends, state_passes, parts}
 use Rattle.ba_link.proofs.Everywhere.{part_passes, at_place}
 use Rattle.ba_scope.specs.Fits.{Above, goes_with, verdict_fits_above}
-use Rattle.ba_ends.specs.Parts.{act_when_drained, state_after_act, verdict_on_the_way, has_no_coordinator}
-use Rattle.ba_ends.specs.Ends.{is_ready_for, is_ended_state, is_ready_state}
+use Rattle.ba_scope_ends.specs.Parts.{act_when_drained, state_after_act, verdict_on_the_way, has_no_coordinator}
+use Rattle.ba_scope_ends.specs.Ends.{is_ready_for, is_ended_state, is_ready_state}
 use Rattle.ba_scope.specs.Rules.{leave_act, may_leave, verdict_then}
 
 -- ---- all that an end may be, where it goes with what it sees

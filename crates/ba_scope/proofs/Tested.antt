@@ -17,15 +17,15 @@ use Rattle.ba_scope.proofs.Lists.{by_test}
 use Rattle.ba_scope.proofs.Places.{moves, others_stay, stays}
 use Rattle.ba_scope.proofs.ScopeCases.{OfRefusal, choose_cases, complete_cases, decide_cases, finish_cases, leave_cases}
 use Rattle.ba_scope.specs.Fits.{are_apart, is_other_end}
-use Rattle.ba_ends.specs.Ends.{end_in_state, end_with_verdict, end_with_id, same_id, completing_end}
-use Rattle.ba_ends.specs.Parts.{part_in_state, state_after_act, acting_part}
+use Rattle.ba_scope_ends.specs.Ends.{end_in_state, end_with_verdict, end_with_id, same_id, completing_end}
+use Rattle.ba_scope_ends.specs.Parts.{part_in_state, state_after_act, acting_part}
 use Rattle.ba_scope.specs.Rules.{ScopeStep, changed_at, choose, complete, decide, done_step, expire, finish, is_expired, leave_act}
 use Rattle.ba_scope.specs.Rules.{leave_by, refused_step, scope_with_verdict, with_end_changed, with_up}
 use Rattle.ba_scope.specs.Scope.{ScopeState}
 use Rattle.ba_scope.specs.declared.answers.Said.{Said}
 use Rattle.ba_scope.specs.declared.answers.Said.TheVariants as said
-use Rattle.ba_ends.specs.declared.ends.End.{End}
-use Rattle.ba_ends.specs.declared.parts.Part.{Part}
+use Rattle.ba_scope_ends.specs.declared.ends.End.{End}
+use Rattle.ba_scope_ends.specs.declared.parts.Part.{Part}
 use Rattle.ba_scope.specs.inside.Moves.{expired_scope, with_up_acted}
 
 -- the answer tells the whole step: where it is Ok, it leads to this scope

@@ -8,7 +8,7 @@ use Rattle.ba_core.specs.declared.protocols.Verdict.{Verdict}
 use Rattle.ba_message.specs.declared.endpoints.Epr.{Epr}
 use Rattle.ba_scope.specs.Rules.{ask, choose, complete, decide, end_receive, enrol_refusal, enrolled_scope, expire, finish, leave_by, owe}
 use Rattle.ba_scope.specs.Rules.{refused_scope, scope_with_end, tick_end, tick_up, up_receive}
-use Rattle.ba_ends.specs.Parts.{is_registering}
+use Rattle.ba_scope_ends.specs.Parts.{is_registering}
 use Rattle.ba_scope.specs.Scope.{ScopeState}
 
 -- a call that changes a scope, with what it is given

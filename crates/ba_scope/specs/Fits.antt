@@ -16,12 +16,12 @@ use Rattle.ba_link.specs.Pairs.{is_close, is_undo, is_open, verdict_fits_state}
 use Rattle.ba_link.specs.States.{end_among}
 use Rattle.ba_message.specs.Endpoints.{same_epr}
 use Rattle.ba_scope.specs.Rules.{own_choice}
-use Rattle.ba_ends.specs.Ends.{same_id, is_ended_state}
-use Rattle.ba_ends.specs.Parts.{part_fits}
+use Rattle.ba_scope_ends.specs.Ends.{same_id, is_ended_state}
+use Rattle.ba_scope_ends.specs.Parts.{part_fits}
 use Rattle.ba_scope.specs.Scope.{ScopeState, is_own_id}
 use Rattle.ba_scope.specs.declared.answers.TheConstants.{MOST_ENDS}
-use Rattle.ba_ends.specs.declared.ends.End.{End}
-use Rattle.ba_ends.specs.declared.parts.Part.{Part}
+use Rattle.ba_scope_ends.specs.declared.ends.End.{End}
+use Rattle.ba_scope_ends.specs.declared.parts.Part.{Part}
 
 -- what an end sees of its scope: the state of the upward part, the scope's kind and verdict
 pub record Above : Type 0 where

@@ -25,11 +25,11 @@ use Rattle.ba_core.specs.declared.states.PState.{PState}
 use Rattle.ba_core.specs.declared.states.PState.TheVariants as part
 use Rattle.ba_link.specs.States.{part_among}
 use Rattle.ba_message.specs.declared.endpoints.Epr.{Epr}
-use Rattle.ba_ends.specs.Ends.{same_id, end_with_id, first_failing, is_ready_state, is_ended_state, Tick, end_with_verdict}
-use Rattle.ba_ends.specs.Ends.{end_with_verdict_if_none, is_ready_for, end_in_state, settled_row, end_after_notice, tick_of_end, end_owing}
-use Rattle.ba_ends.specs.Ends.{end_asking, new_end}
-use Rattle.ba_ends.specs.Parts.{is_registering, part_in_state, verdict_on_the_way, state_after_row, tick_of_part, act_when_drained}
-use Rattle.ba_ends.specs.Parts.{state_after_act, part_owing, part_asking, is_enrolled_as, enrolled_part, refused_part}
+use Rattle.ba_scope_ends.specs.Ends.{same_id, end_with_id, first_failing, is_ready_state, is_ended_state, Tick, end_with_verdict}
+use Rattle.ba_scope_ends.specs.Ends.{end_with_verdict_if_none, is_ready_for, end_in_state, settled_row, end_after_notice, tick_of_end, end_owing}
+use Rattle.ba_scope_ends.specs.Ends.{end_asking, new_end}
+use Rattle.ba_scope_ends.specs.Parts.{is_registering, part_in_state, verdict_on_the_way, state_after_row, tick_of_part, act_when_drained}
+use Rattle.ba_scope_ends.specs.Parts.{state_after_act, part_owing, part_asking, is_enrolled_as, enrolled_part, refused_part}
 use Rattle.ba_scope.specs.Scope.{ScopeState, is_drained, any_failed, is_sealed, is_full}
 use Rattle.ba_scope.specs.declared.answers.Drained.{Drained}
 use Rattle.ba_scope.specs.declared.answers.EnrolFault.{EnrolFault}
@@ -38,8 +38,8 @@ use Rattle.ba_scope.specs.declared.answers.Said.{Said}
 use Rattle.ba_scope.specs.declared.answers.Said.TheVariants as said
 use Rattle.ba_scope.specs.declared.answers.TheConstants.{ALREADY_DECIDED, NOT_READY, NOT_A_ROOT, WRONG_KIND, NO_SUCH_END, NOT_A_CHILD}
 use Rattle.ba_scope.specs.declared.answers.TheConstants.{NOT_DRAINED, WRONG_STATE, MOST_ENDS}
-use Rattle.ba_ends.specs.declared.ends.End.{End}
-use Rattle.ba_ends.specs.declared.parts.Part.{Part}
+use Rattle.ba_scope_ends.specs.declared.ends.End.{End}
+use Rattle.ba_scope_ends.specs.declared.parts.Part.{Part}
 
 -- what a call answers, and the scope after it
 pub record ScopeStep (A : Type 0) : Type 0 where

@@ -7,10 +7,10 @@ use Rattle.ba_core.specs.declared.protocols.Verdict.{Verdict}
 use Rattle.ba_core.specs.declared.states.How.TheVariants.{Failed}
 use Rattle.ba_core.specs.declared.states.CState.TheVariants as end
 use Rattle.ba_core.specs.declared.states.PState.TheVariants as part
-use Rattle.ba_ends.specs.Ends.{same_id, is_ended_state}
+use Rattle.ba_scope_ends.specs.Ends.{same_id, is_ended_state}
 use Rattle.ba_link.specs.States.{end_among, part_among}
-use Rattle.ba_ends.specs.declared.ends.End.{End}
-use Rattle.ba_ends.specs.declared.parts.Part.{Part}
+use Rattle.ba_scope_ends.specs.declared.ends.End.{End}
+use Rattle.ba_scope_ends.specs.declared.parts.Part.{Part}
 
 -- A scope: for a child, the participant by which it is itself enrolled above; the verdict that was set on it;
 -- its ends, in the order in which they were enrolled. It takes no more ends than its limit.

@@ -4,9 +4,9 @@ ghost use Rattle.std.specs.List.{AllByRecursion};
 ghost use Rattle.std.specs.Option.{option_map};
 ghost use Rattle.ba_core.specs.Messages.{is_column};
 ghost use Rattle.ba_core.specs.PartRows.{is_part_state};
-ghost use Rattle.ba_ends.specs.Ends.{has_own_state, end_with_verdict, end_of, end_with_id, completing_end};
+ghost use Rattle.ba_scope_ends.specs.Ends.{has_own_state, end_with_verdict, end_of, end_with_id, completing_end};
 ghost use Rattle.ba_scope.specs.Fits.{ScopeFits};
-ghost use Rattle.ba_ends.specs.Parts.{act_when_drained, state_after_act, state_after_row, is_registering};
+ghost use Rattle.ba_scope_ends.specs.Parts.{act_when_drained, state_after_act, state_after_row, is_registering};
 ghost use Rattle.ba_scope.specs.Rules.{ask, choose, complete, decide, drained_as, end_receive, enrol_refusal, enrolled_scope, expire, finish, is_atomic, leave_act, leave_by, may_leave, owe, refused_scope, scope_with_verdict, scope_with_verdict_if_any, tick_end, tick_up, up_receive, scope_with_end, state_at_tick, with_end_changed};
 ghost use Rattle.ba_scope.specs.Scope.{has_id, is_at_work, is_id_above};
 ghost use Rattle.ba_scope.specs.inside.Moves.{expired_scope, with_up_acted};
@@ -18,12 +18,12 @@ use crate::answers::{
 use ba_core::{
     Act, CRow, CState, Id, Kind, Leave, Memory, Notice, PRow, PState, Protocol, Verdict,
 };
-use ba_ends::{
+use ba_message::Epr;
+use ba_scope_ends::{
     End, Part, Room, any_failed_end, are_ended, end_of_participant, first_not_ended,
     first_not_ready, first_not_ready_for, has_end, place_of, set_verdicts, set_verdicts_if_none,
     verdict_from_above,
 };
-use ba_message::Epr;
 use std::marker::Model;
 use std::mem;
 

@@ -4,15 +4,15 @@ ghost use Rattle.std.specs.Option.{option_map};
 ghost use Rattle.ba_core.specs.Messages.{is_column};
 ghost use Rattle.ba_scope.specs.Fits.{up_fits};
 ghost use Rattle.ba_scope.specs.Rules.{ask, choose, complete, decide, drained_as, end_receive, enrol_refusal, enrolled_scope, expire, finish, leave_by, new_scope, owe, refused_scope, state_at_tick, tick_end, tick_up, up_receive, scope_with_end};
-ghost use Rattle.ba_ends.specs.Ends.{end_of, end_with_id};
-ghost use Rattle.ba_ends.specs.Parts.{is_registering};
+ghost use Rattle.ba_scope_ends.specs.Ends.{end_of, end_with_id};
+ghost use Rattle.ba_scope_ends.specs.Parts.{is_registering};
 ghost use Rattle.ba_scope.specs.Scope.{has_id};
 
 use crate::answers::{Drained, EnrolFault, MOST_ENDS, Said};
 use crate::fields::Fields;
 use ba_core::{CRow, Id, Kind, Leave, Memory, Notice, PRow, PState, Protocol, Verdict};
-use ba_ends::{End, Part, Room};
 use ba_message::Epr;
+use ba_scope_ends::{End, Part, Room};
 use std::alloc::Global;
 use std::marker::Model;
 

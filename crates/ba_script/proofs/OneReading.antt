@@ -1,11 +1,11 @@
 -- A text is a script in one way, or none, and is bad at one place: for the law `scripts_mean_one_thing`.
 use Rattle.std.proofs.Common.{◌≡◌, ℕ, ◌+◌, ◌≤◌, Option, None, Some, List, [], ◌∷◌, take, zero, suc, sym, ap, ◌∙◌, subst, inl, inr, arith}
 use Rattle.ba_core.specs.declared.protocols.Protocol.{Protocol}
-use Rattle.ba_forms.specs.Readings.{IsLine, bad_column}
-use Rattle.ba_forms.specs.declared.readings.Form.{Form}
-use Rattle.ba_forms.specs.declared.readings.Reading.{Reading}
-use Rattle.ba_forms.proofs.Back.{line_is_one}
-use Rattle.ba_forms.proofs.Meanings.{line_is_good}
+use Rattle.ba_script_forms.specs.Readings.{IsLine, bad_column}
+use Rattle.ba_script_forms.specs.declared.readings.Form.{Form}
+use Rattle.ba_script_forms.specs.declared.readings.Reading.{Reading}
+use Rattle.ba_script_forms.proofs.Back.{line_is_one}
+use Rattle.ba_script_forms.proofs.Meanings.{line_is_good}
 use Rattle.ba_pair.specs.PairPlay.{Numbered}
 use Rattle.ba_ports.specs.Lines.{lines_of}
 use Rattle.ba_script.specs.Scripts.{form_after, onto_script, MeansScript, IsFirstBadLine, IsScript, IsPairScript, IsBadScript, IsLongScript}

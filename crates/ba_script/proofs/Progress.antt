@@ -3,12 +3,12 @@ use Rattle.std.proofs.Common.{◌≡◌, ℕ, ◌+◌, ◌*◌, ◌<◌, ◌≤�
 use Rattle.std.proofs.Common.{length, take, drop, refl, sym, ap, ◌∙◌, subst, inl, inr, append_assoc, append-nil, take-append-drop, take-add}
 use Rattle.std.proofs.Common.{drop-drop, take_all, arith, length-append, length-drop}
 use Rattle.ba_core.specs.declared.protocols.Protocol.TheVariants.{Pc}
-use Rattle.ba_events.specs.Events.{NumberedEvent}
-use Rattle.ba_forms.specs.Readings.{IsLine, bad_column}
-use Rattle.ba_forms.specs.declared.readings.Form.{Form}
-use Rattle.ba_forms.specs.declared.readings.Form.TheVariants as form
-use Rattle.ba_forms.specs.declared.readings.Reading.{Reading}
-use Rattle.ba_forms.specs.declared.readings.Reading.TheVariants as reading
+use Rattle.ba_world_events.specs.Events.{NumberedEvent}
+use Rattle.ba_script_forms.specs.Readings.{IsLine, bad_column}
+use Rattle.ba_script_forms.specs.declared.readings.Form.{Form}
+use Rattle.ba_script_forms.specs.declared.readings.Form.TheVariants as form
+use Rattle.ba_script_forms.specs.declared.readings.Reading.{Reading}
+use Rattle.ba_script_forms.specs.declared.readings.Reading.TheVariants as reading
 use Rattle.ba_pair.specs.PairPlay.{Numbered}
 use Rattle.ba_ports.specs.Lines.{onto_first, lines_of, byte_count}
 use Rattle.ba_script.specs.Scripts.{empty_script, form_after, onto_script, MeansScript, IsFirstBadLine, IsScript, IsBadScript}

@@ -2,8 +2,8 @@
 use Rattle.std.proofs.Common.{◌≡◌, ℕ, ◌+◌, ◌<◌, ◌⊎◌, inl, inr, Bool, true, false, nat_lt, Option, None, List, [], ◌∷◌, length, take}
 use Rattle.std.proofs.Common.{length-take, zero, suc, refl, arith}
 use Rattle.std.proofs.lemmas.Bool.{ltb-true, ltb-false}
-use Rattle.ba_forms.specs.declared.readings.Form.{Form}
-use Rattle.ba_forms.proofs.Meanings.{line_means}
+use Rattle.ba_script_forms.specs.declared.readings.Form.{Form}
+use Rattle.ba_script_forms.proofs.Meanings.{line_means}
 use Rattle.ba_ports.specs.Lines.{lines_of}
 use Rattle.ba_script.specs.Scripts.{empty_script, form_after, onto_script, MeansScript, IsFirstBadLine, IsScript, IsBadScript, IsLongScript}
 use Rattle.ba_script.specs.declared.scripts.Script.{Script}

@@ -3,10 +3,10 @@ use Rattle.std.proofs.Common.{◌≡◌, ℕ, ◌+◌, ◌<◌, ◌≤◌, List,
 use Rattle.std.proofs.Common.{IfSome, inl, inr, refl, sym, ap, ◌∙◌, subst, append_assoc, arith, length-append, length-drop}
 use Rattle.std.proofs.lemmas.Bool.{lt-ltb}
 use Rattle.std.specs.Io.KnownBytes.{IsAtEnd, Keeps, prepend_known}
-use Rattle.ba_events.specs.Events.{NumberedEvent}
-use Rattle.ba_forms.specs.Readings.{IsLine, bad_column, bad_unless_remark}
-use Rattle.ba_forms.specs.declared.readings.Form.{Form}
-use Rattle.ba_forms.specs.declared.readings.Reading.{Reading}
+use Rattle.ba_world_events.specs.Events.{NumberedEvent}
+use Rattle.ba_script_forms.specs.Readings.{IsLine, bad_column, bad_unless_remark}
+use Rattle.ba_script_forms.specs.declared.readings.Form.{Form}
+use Rattle.ba_script_forms.specs.declared.readings.Reading.{Reading}
 use Rattle.ba_pair.specs.PairPlay.{Numbered}
 use Rattle.ba_ports.specs.Lines.{lines_of, byte_count}
 use Rattle.ba_script.specs.Scripts.{form_after, IsScript, IsBadScript, IsLongScript}

@@ -3,13 +3,13 @@
 use Rattle.std.specs.Prelude.{◌≡◌, ℕ, ◌+◌, ◌-◌, ◌*◌, ◌<◌, ◌≤◌, ◌⊎◌, Option, None, Some, List, [], ◌∷◌, length, take}
 use Rattle.ba_core.specs.declared.protocols.Protocol.{Protocol}
 use Rattle.ba_core.specs.declared.protocols.Protocol.TheVariants.{Pc}
-use Rattle.ba_events.specs.Events.{NumberedEvent}
-use Rattle.ba_forms.specs.Readings.{IsLine, bad_column}
-use Rattle.ba_forms.specs.declared.readings.Form.{Form}
-use Rattle.ba_forms.specs.declared.readings.Form.TheVariants as form
-use Rattle.ba_forms.specs.declared.readings.Reading.{Reading}
-use Rattle.ba_forms.specs.declared.readings.Reading.TheVariants as reading
-use Rattle.ba_forms.specs.declared.readings.TheConstants.{MOST_BYTES}
+use Rattle.ba_world_events.specs.Events.{NumberedEvent}
+use Rattle.ba_script_forms.specs.Readings.{IsLine, bad_column}
+use Rattle.ba_script_forms.specs.declared.readings.Form.{Form}
+use Rattle.ba_script_forms.specs.declared.readings.Form.TheVariants as form
+use Rattle.ba_script_forms.specs.declared.readings.Reading.{Reading}
+use Rattle.ba_script_forms.specs.declared.readings.Reading.TheVariants as reading
+use Rattle.ba_script_forms.specs.declared.readings.TheConstants.{MOST_BYTES}
 use Rattle.ba_pair.specs.PairPlay.{Numbered}
 use Rattle.ba_ports.specs.Lines.{lines_of, byte_count}
 use Rattle.ba_script.specs.declared.lines.TheConstants.{BLOCK}

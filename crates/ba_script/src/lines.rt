@@ -6,8 +6,8 @@ ghost use Rattle.ba_script.specs.inside.Lines.{HasNoFeed, EndsLine, IsNextLine, 
 ghost use Rattle.ba_script.specs.Scripts.{lookahead};
 
 use ba_core::Memory;
-use ba_forms::MOST_BYTES;
 use ba_ports::{Failed, Source};
+use ba_script_forms::MOST_BYTES;
 use std::alloc::Global;
 use std::marker::Model;
 

@@ -8,10 +8,10 @@ ghost use Rattle.ba_script.specs.inside.Events.{pair_event_of, script_of, world_
 
 use crate::lines::Lines;
 use ba_core::{List, Memory, Protocol};
-use ba_events::Event;
-use ba_forms::{Form, Reading, reading_of};
 use ba_pair::PairEvent;
 use ba_ports::{Failed, Source};
+use ba_script_forms::{Form, Reading, reading_of};
+use ba_world_events::Event;
 use std::alloc::Global;
 use thiserror::Error;
 

@@ -5,8 +5,8 @@ use Rattle.std.specs.Cmp.{first_so, second_so}
 use Rattle.std.specs.List.{list_any}
 use Rattle.std.specs.Ordering.{is_lt}
 use Rattle.ba_message.specs.Endpoints.{are_unmarked, marks_parameter}
-use Rattle.ba_shape.specs.Endpoints.{unmarked_tree}
-use Rattle.ba_shape.proofs.WrittenEndpoints.{unmarked_stays}
+use Rattle.ba_soap_shapes.specs.Endpoints.{unmarked_tree}
+use Rattle.ba_soap_shapes.proofs.WrittenEndpoints.{unmarked_stays}
 use Rattle.ba_soap.specs.Elements.{marked_tree, parameter_mark, with_attribute}
 use Rattle.ba_soap.specs.Envelopes.{Dialect, flag_of, has_bad_flag, header_of, is_looked_at, is_unknown, is_left_out_or_one_of}
 use Rattle.ba_soap.specs.Envelopes.{is_not_understood, is_parameter, option_is_one_of, value_at}

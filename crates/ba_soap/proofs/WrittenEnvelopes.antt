@@ -10,11 +10,11 @@ use Rattle.std.specs.Cmp.{first_so, second_so}
 use Rattle.std.specs.Cmp.Lexicographic as lexicographic
 use Rattle.std.specs.List.{list_any, position, prefix_len}
 use Rattle.ba_core.specs.declared.memory.Memory.{Memory}
-use Rattle.ba_shape.specs.Elements.{children, text_of}
-use Rattle.ba_shape.specs.Endpoints.{unmarked_tree, wsa_name}
-use Rattle.ba_shape.specs.Forms.{is_there}
-use Rattle.ba_shape.proofs.WrittenEndpoints.{text_alone}
-use Rattle.ba_shape.proofs.WrittenShapes.{children_are}
+use Rattle.ba_soap_shapes.specs.Elements.{children, text_of}
+use Rattle.ba_soap_shapes.specs.Endpoints.{unmarked_tree, wsa_name}
+use Rattle.ba_soap_shapes.specs.Forms.{is_there}
+use Rattle.ba_soap_shapes.proofs.WrittenEndpoints.{text_alone}
+use Rattle.ba_soap_shapes.proofs.WrittenShapes.{children_are}
 use Rattle.ba_soap.specs.declared.headers.Envelope.{Envelope}
 use Rattle.ba_soap.specs.declared.headers.Header.{Header}
 use Rattle.ba_soap.specs.declared.headers.Header.TheVariants as header

@@ -9,8 +9,8 @@ use Rattle.ba_tree.specs.Characters.{has_bare_ends}
 use Rattle.ba_tree.specs.Trees.{name_cmp}
 use Rattle.ba_message.specs.Endpoints.{are_unmarked}
 use Rattle.ba_message.specs.declared.endpoints.TheConstants.{PARAMETER_MARK}
-use Rattle.ba_shape.specs.Endpoints.{bare_element, wsa_name}
-use Rattle.ba_shape.specs.Forms.{is_there}
+use Rattle.ba_soap_shapes.specs.Endpoints.{bare_element, wsa_name}
+use Rattle.ba_soap_shapes.specs.Forms.{is_there}
 use Rattle.ba_soap.specs.declared.headers.Envelope.{Envelope}
 use Rattle.ba_soap.specs.declared.headers.Header.{Header}
 use Rattle.ba_soap.specs.declared.headers.Header.TheVariants as header

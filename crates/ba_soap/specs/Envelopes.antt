@@ -15,9 +15,9 @@ use Rattle.ba_soap.specs.declared.headers.ReplyTo.TheVariants as reply
 use Rattle.ba_soap.specs.declared.headers.SoapFault.{SoapFault}
 use Rattle.ba_soap.specs.declared.headers.SoapFault.TheVariants as fault
 use Rattle.ba_soap.specs.declared.headers.Envelope.{Envelope}
-use Rattle.ba_shape.specs.Elements.{children, in_u32, text_of}
-use Rattle.ba_shape.specs.Endpoints.{address_line, child_at, text_in, unmarked_tree}
-use Rattle.ba_shape.specs.Forms.{is_there}
+use Rattle.ba_soap_shapes.specs.Elements.{children, in_u32, text_of}
+use Rattle.ba_soap_shapes.specs.Endpoints.{address_line, child_at, text_in, unmarked_tree}
+use Rattle.ba_soap_shapes.specs.Forms.{is_there}
 
 -- ---- what differs between versions of SOAP
 

@@ -4,14 +4,14 @@ ghost use Rattle.std.specs.List.{prefix_len};
 ghost use Rattle.std.specs.Ordering.{is_lt};
 ghost use Rattle.ba_tree.specs.Trees.{name_cmp};
 ghost use Rattle.ba_tree.specs.declared.trees.Content.TheVariants.{Child, Text};
-ghost use Rattle.ba_shape.specs.Endpoints.{bare_element};
+ghost use Rattle.ba_soap_shapes.specs.Endpoints.{bare_element};
 ghost use Rattle.ba_soap.specs.Elements.{IsPlainEnvelope, envelope_element, header_blocks, marked_tree, optional_block, parameter_mark, soap_element, text_block, text_blocks, with_attribute};
 ghost use Rattle.ba_soap.specs.Envelopes.{envelope_answer, soap11};
 
 use crate::headers::{Dialect, Envelope, Header, ReplyTo, Soap11};
 use ba_core::{List, Memory, Octets};
 use ba_message::PARAMETER_MARK;
-use ba_shape::{and, element, name, only, text_element, wsa_name};
+use ba_soap_shapes::{and, element, name, only, text_element, wsa_name};
 use ba_tree::{Attribute, Content, Name, Tree};
 use std::alloc::Global;
 

@@ -2,8 +2,8 @@
 ghost use Rattle.std.specs.Prelude.{◌≡◌, ◌++◌, [], ◌∷◌, ℕ, Bool, None, Some, Option, IfOk, MatchOption, length, map, filter, find, not, codes};
 ghost use Rattle.std.specs.List.{list_any, position};
 ghost use Rattle.ba_tree.specs.declared.trees.Tree.{Tree};
-ghost use Rattle.ba_shape.specs.Elements.{children, in_u32, text_of};
-ghost use Rattle.ba_shape.specs.Endpoints.{child_at, text_in};
+ghost use Rattle.ba_soap_shapes.specs.Elements.{children, in_u32, text_of};
+ghost use Rattle.ba_soap_shapes.specs.Endpoints.{child_at, text_in};
 ghost use Rattle.ba_soap.specs.Envelopes.{IsSoapAnswer, block_fault, answer_by_body, answer_by_parts, blocks_refusal, envelope_answer, envelope_by_blocks, first_invalid_header, has_bad_flag, header_text, is_header, is_looked_at, is_not_understood, is_part, action_fault, option_text, text_or_none, envelope_said, refusal_by, is_reply_relation, reply_of, soap11, answer_unless_refused};
 ghost use Rattle.ba_soap.specs.declared.headers.Header.TheVariants as header;
 
@@ -12,7 +12,7 @@ use crate::headers::{
     first_invalid, first_not_understood, has_any_bad_flag, is_called, looked_at, parameters,
 };
 use ba_core::{Memory, Octets};
-use ba_shape::{ADDRESS, text_at, text_of};
+use ba_soap_shapes::{ADDRESS, text_at, text_of};
 use ba_tree::Tree;
 use std::alloc::Global;
 

@@ -1,12 +1,12 @@
 //! Envelopes and the headers of WS-Addressing.
 ghost use Rattle.std.specs.Prelude.{◌≡◌, ◌++◌, [], ℕ, Bool, None, Some, Option, IfOk, MatchOption, length, map, filter, find, not, codes};
 ghost use Rattle.std.specs.List.{list_any, list_all, position};
-ghost use Rattle.ba_shape.specs.Elements.{children};
-ghost use Rattle.ba_shape.specs.Endpoints.{unmarked_tree};
+ghost use Rattle.ba_soap_shapes.specs.Elements.{children};
+ghost use Rattle.ba_soap_shapes.specs.Endpoints.{unmarked_tree};
 ghost use Rattle.ba_soap.specs.Envelopes.{Dialect as TheDialect, IsSoapAnswer, is_reply_relation, stands_once, has_text, lacks_address, is_invalid, invalid_header, first_invalid_header, answer_by_parts, answer_by_body, answer_unless_refused, blocks_refusal, envelope_by_blocks, first_refusal, envelope_answer, flag_of, has_bad_flag, header_name, header_of, headers, is_called, is_header, is_looked_at, is_not_understood, is_parameter, is_left_out_or_one_of, one_of, option_is_one_of, value_at};
 
 use ba_core::{List, Memory, Octets};
-use ba_shape::{ADDRESS, child_at, text_of, unmarked};
+use ba_soap_shapes::{ADDRESS, child_at, text_of, unmarked};
 use ba_tree::{Attribute, Content, Name, SOAP_SPACE, Tree, WSA_SPACE};
 use std::alloc::Global;
 use thiserror::Error;

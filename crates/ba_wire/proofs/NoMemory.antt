@@ -4,10 +4,10 @@ use Rattle.std.proofs.Common.{subst, bytes_eq}
 use Rattle.std.specs.Prelude.{codes, filter}
 use Rattle.std.specs.List.{list_any, position}
 use Rattle.ba_tree.specs.declared.trees.Tree.{Tree}
-use Rattle.ba_shape.specs.Elements.{children}
-use Rattle.ba_shape.specs.declared.shapes.Misfit.{Misfit}
-use Rattle.ba_shape.specs.declared.shapes.Why.{Why}
-use Rattle.ba_shape.specs.declared.shapes.Why.TheVariants.{Mismatch, Limit}
+use Rattle.ba_soap_shapes.specs.Elements.{children}
+use Rattle.ba_soap_shapes.specs.declared.shapes.Misfit.{Misfit}
+use Rattle.ba_soap_shapes.specs.declared.shapes.Why.{Why}
+use Rattle.ba_soap_shapes.specs.declared.shapes.Why.TheVariants.{Mismatch, Limit}
 use Rattle.ba_soap.specs.declared.headers.Envelope.{Envelope}
 use Rattle.ba_soap.specs.declared.headers.Header.{Header}
 use Rattle.ba_soap.specs.declared.headers.Header.TheVariants as header

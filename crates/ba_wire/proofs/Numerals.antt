@@ -5,8 +5,8 @@ use Rattle.std.specs.Cmp.{first_so, second_so}
 use Rattle.std.specs.List.{list_all}
 use Rattle.std.specs.Str.Parse.{digits_value}
 use Rattle.ba_tree.specs.Names.{is_digit}
-use Rattle.ba_shape.specs.declared.forms.TheConstants.{MOST_NUMBER}
-use Rattle.ba_shape.specs.Forms.{is_number, is_there}
+use Rattle.ba_soap_shapes.specs.declared.forms.TheConstants.{MOST_NUMBER}
+use Rattle.ba_soap_shapes.specs.Forms.{is_number, is_there}
 
 -- digits that write a number that is small
 are_small_digits : (text : List ℕ) → is_number text ≡ true → (list_all is_digit text && nat_le (digits_value 10 text) MOST_NUMBER) ≡ true

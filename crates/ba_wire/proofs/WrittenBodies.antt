@@ -17,14 +17,14 @@ use Rattle.ba_message.specs.declared.endpoints.Epr.{Epr}
 use Rattle.ba_message.specs.declared.messages.Context.{Context}
 use Rattle.ba_message.specs.declared.messages.Message.{Message}
 use Rattle.ba_message.specs.declared.messages.Message.TheVariants as message
-use Rattle.ba_shape.specs.declared.forms.Plain.TheVariants as plain
-use Rattle.ba_shape.specs.Elements.{own_texts}
-use Rattle.ba_shape.specs.Endpoints.{child_at, text_in}
-use Rattle.ba_shape.specs.Forms.{is_qname, local_part, mismatch_unless, plain_look}
-use Rattle.ba_shape.specs.Shapes.{Line, names}
-use Rattle.ba_shape.proofs.ElementLaws.{text_text}
-use Rattle.ba_shape.proofs.WrittenEndpoints.{endpoint_holds, endpoint_is, text_alone}
-use Rattle.ba_shape.proofs.WrittenShapes.{Fine, child_is, head_of, rows_hold}
+use Rattle.ba_soap_shapes.specs.declared.forms.Plain.TheVariants as plain
+use Rattle.ba_soap_shapes.specs.Elements.{own_texts}
+use Rattle.ba_soap_shapes.specs.Endpoints.{child_at, text_in}
+use Rattle.ba_soap_shapes.specs.Forms.{is_qname, local_part, mismatch_unless, plain_look}
+use Rattle.ba_soap_shapes.specs.Shapes.{Line, names}
+use Rattle.ba_soap_shapes.proofs.ElementLaws.{text_text}
+use Rattle.ba_soap_shapes.proofs.WrittenEndpoints.{endpoint_holds, endpoint_is, text_alone}
+use Rattle.ba_soap_shapes.proofs.WrittenShapes.{Fine, child_is, head_of, rows_hold}
 use Rattle.ba_soap.specs.Elements.{is_bare_text}
 use Rattle.ba_tree.specs.Characters.{has_bare_ends}
 use Rattle.ba_tree.specs.declared.trees.Name.{Name}

@@ -8,13 +8,13 @@ use Rattle.ba_core.specs.declared.protocols.Kind.{Kind}
 use Rattle.ba_core.specs.declared.protocols.Kind.TheVariants.{Atomic, Mixed}
 use Rattle.ba_message.specs.declared.endpoints.Epr.{Epr}
 use Rattle.ba_message.specs.declared.messages.Context.{Context}
-use Rattle.ba_shape.specs.declared.forms.Plain.TheVariants as plain
-use Rattle.ba_shape.specs.Elements.{text_of}
-use Rattle.ba_shape.specs.Endpoints.{child_at, endpoint_element, text_at, text_in}
-use Rattle.ba_shape.specs.Forms.{is_number, is_there, mismatch_unless, plain_look}
-use Rattle.ba_shape.specs.Shapes.{Line, Look, names, rows_misfit}
-use Rattle.ba_shape.proofs.WrittenEndpoints.{endpoint_holds, endpoint_is, text_alone}
-use Rattle.ba_shape.proofs.WrittenShapes.{Fine, child_is, head_of, rows_hold}
+use Rattle.ba_soap_shapes.specs.declared.forms.Plain.TheVariants as plain
+use Rattle.ba_soap_shapes.specs.Elements.{text_of}
+use Rattle.ba_soap_shapes.specs.Endpoints.{child_at, endpoint_element, text_at, text_in}
+use Rattle.ba_soap_shapes.specs.Forms.{is_number, is_there, mismatch_unless, plain_look}
+use Rattle.ba_soap_shapes.specs.Shapes.{Line, Look, names, rows_misfit}
+use Rattle.ba_soap_shapes.proofs.WrittenEndpoints.{endpoint_holds, endpoint_is, text_alone}
+use Rattle.ba_soap_shapes.proofs.WrittenShapes.{Fine, child_is, head_of, rows_hold}
 use Rattle.ba_soap.specs.Elements.{is_bare_text}
 use Rattle.ba_tree.specs.Characters.{has_bare_ends}
 use Rattle.ba_tree.specs.declared.trees.Name.{Name}

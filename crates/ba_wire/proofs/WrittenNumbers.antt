@@ -9,8 +9,8 @@ use Rattle.std.specs.Fmt.{decimal}
 use Rattle.std.specs.List.{list_all}
 use Rattle.std.specs.Char.{digit_value}
 use Rattle.std.specs.Str.Parse.{AllDigits, IsNumeral, digits_value}
-use Rattle.ba_shape.specs.declared.forms.TheConstants.{MOST_NUMBER}
-use Rattle.ba_shape.specs.Forms.{is_number, is_there}
+use Rattle.ba_soap_shapes.specs.declared.forms.TheConstants.{MOST_NUMBER}
+use Rattle.ba_soap_shapes.specs.Forms.{is_number, is_there}
 use Rattle.ba_tree.specs.Characters.{has_bare_ends, is_white}
 use Rattle.ba_tree.specs.Names.{is_digit}
 

@@ -4,7 +4,7 @@ use Rattle.std.proofs.lemmas.List.{append_assoc, map-append}
 use Rattle.std.specs.Prelude.{IfOk}
 use Rattle.ba_core.specs.declared.memory.Memory.{Memory}
 use Rattle.ba_message.specs.declared.messages.Context.{Context}
-use Rattle.ba_shape.specs.Endpoints.{endpoint_element}
+use Rattle.ba_soap_shapes.specs.Endpoints.{endpoint_element}
 use Rattle.ba_tree.specs.declared.trees.Content.{Content}
 use Rattle.ba_tree.specs.declared.trees.Content.TheVariants.{Child}
 use Rattle.ba_tree.specs.declared.trees.Tree.{Tree}

@@ -18,12 +18,12 @@ use Rattle.ba_message.specs.declared.messages.Message.{Message}
 use Rattle.ba_message.specs.declared.messages.Message.TheVariants as message
 use Rattle.ba_tree.specs.declared.trees.Tree.{Tree}
 use Rattle.ba_tree.specs.Namespaces.{wsba_space}
-use Rattle.ba_shape.specs.declared.forms.Plain.TheVariants as plain
-use Rattle.ba_shape.specs.declared.shapes.Space.TheVariants as space
-use Rattle.ba_shape.specs.Elements.{own_texts, text_of}
-use Rattle.ba_shape.specs.Endpoints.{child_at, endpoint_look, endpoint_of, text_at}
-use Rattle.ba_shape.specs.Forms.{is_number, local_part, plain_look, mismatch_unless}
-use Rattle.ba_shape.specs.Shapes.{Line, Look, optional_child, required_child, rows_misfit}
+use Rattle.ba_soap_shapes.specs.declared.forms.Plain.TheVariants as plain
+use Rattle.ba_soap_shapes.specs.declared.shapes.Space.TheVariants as space
+use Rattle.ba_soap_shapes.specs.Elements.{own_texts, text_of}
+use Rattle.ba_soap_shapes.specs.Endpoints.{child_at, endpoint_look, endpoint_of, text_at}
+use Rattle.ba_soap_shapes.specs.Forms.{is_number, local_part, plain_look, mismatch_unless}
+use Rattle.ba_soap_shapes.specs.Shapes.{Line, Look, optional_child, required_child, rows_misfit}
 use Rattle.ba_wire.specs.declared.forms.Part.{Part}
 use Rattle.ba_wire.specs.declared.forms.Part.TheVariants as part
 use Rattle.ba_wire.specs.declared.forms.Whole.{Whole}

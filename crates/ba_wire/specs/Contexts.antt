@@ -3,11 +3,11 @@
 use Rattle.std.specs.Prelude.{◌≤◌, ℕ, Option, Some, None, Result, Ok, Err, IsTrue, is_some}
 use Rattle.ba_message.specs.Endpoints.{Fits}
 use Rattle.ba_message.specs.declared.messages.Context.{Context}
-use Rattle.ba_shape.specs.declared.endpoints.EprFault.{EprFault}
-use Rattle.ba_shape.specs.declared.forms.TheConstants.{MOST_NUMBER}
-use Rattle.ba_shape.specs.declared.shapes.Misfit.{Misfit}
-use Rattle.ba_shape.specs.Endpoints.{fault_of}
-use Rattle.ba_shape.specs.Shapes.{rows_misfit}
+use Rattle.ba_soap_shapes.specs.declared.endpoints.EprFault.{EprFault}
+use Rattle.ba_soap_shapes.specs.declared.forms.TheConstants.{MOST_NUMBER}
+use Rattle.ba_soap_shapes.specs.declared.shapes.Misfit.{Misfit}
+use Rattle.ba_soap_shapes.specs.Endpoints.{fault_of}
+use Rattle.ba_soap_shapes.specs.Shapes.{rows_misfit}
 use Rattle.ba_soap.specs.Elements.{is_bare_text}
 use Rattle.ba_tree.specs.declared.trees.Tree.{Tree}
 use Rattle.ba_wire.specs.Bodies.{context_lines, context_of, part_look}

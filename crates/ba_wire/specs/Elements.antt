@@ -18,7 +18,7 @@ use Rattle.ba_tree.specs.declared.trees.Name.{Name}
 use Rattle.ba_tree.specs.declared.trees.Tree.{Tree}
 use Rattle.ba_tree.specs.declared.trees.Content.TheVariants.{Child, Text}
 use Rattle.ba_tree.specs.Namespaces.{own_space, wsba_space, wscoor_space}
-use Rattle.ba_shape.specs.Endpoints.{bare_element, endpoint_element}
+use Rattle.ba_soap_shapes.specs.Endpoints.{bare_element, endpoint_element}
 use Rattle.ba_wire.specs.Actions.{body_name, body_space}
 use Rattle.ba_wire.specs.Bodies.{atomic_outcome, coordinator_completion, mixed_outcome, participant_completion}
 use Rattle.ba_wire.specs.declared.bodies.Body.{Body}

@@ -8,9 +8,9 @@ use Rattle.ba_soap.specs.declared.headers.ReplyTo.{ReplyTo}
 use Rattle.ba_soap.specs.declared.headers.ReplyTo.TheVariants as reply
 use Rattle.ba_soap.specs.declared.headers.SoapFault.{SoapFault}
 use Rattle.ba_soap.specs.declared.headers.SoapFault.TheVariants as soap
-use Rattle.ba_shape.specs.declared.shapes.Misfit.{Misfit}
-use Rattle.ba_shape.specs.declared.shapes.Why.{Why}
-use Rattle.ba_shape.specs.declared.shapes.Why.TheVariants.{Mismatch, Limit}
+use Rattle.ba_soap_shapes.specs.declared.shapes.Misfit.{Misfit}
+use Rattle.ba_soap_shapes.specs.declared.shapes.Why.{Why}
+use Rattle.ba_soap_shapes.specs.declared.shapes.Why.TheVariants.{Mismatch, Limit}
 use Rattle.ba_soap.specs.Envelopes.{Dialect, envelope_answer, is_called, soap11}
 use Rattle.ba_wire.specs.declared.bodies.Body.{Body}
 use Rattle.ba_wire.specs.declared.bodies.Body.TheVariants as body

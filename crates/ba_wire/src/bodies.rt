@@ -1,6 +1,6 @@
 //! The shapes of bodies, as tables.
 ghost use Rattle.std.specs.Prelude.{◌≡◌, ℕ, IfOk, map, find};
-ghost use Rattle.ba_shape.specs.Shapes.{line_of};
+ghost use Rattle.ba_soap_shapes.specs.Shapes.{line_of};
 ghost use Rattle.ba_wire.specs.Bodies.{body_look, message_of, lines_of_body};
 ghost use Rattle.ba_wire.specs.Actions.{action_of, bodies, element_uri, has_action, body_name, body_of, body_space};
 ghost use Rattle.ba_wire.specs.Meaning.{asks_for_reply};
@@ -10,7 +10,7 @@ use crate::forms::{Part, Whole};
 use crate::values::{create, created, fault, register, registered, status};
 use ba_core::{Memory, Notice, name_of};
 use ba_message::Message;
-use ba_shape::{Misfit, Need, Plain, Row, Space, rows_misfit};
+use ba_soap_shapes::{Misfit, Need, Plain, Row, Space, rows_misfit};
 use ba_tree::{SOAP_SPACE, Tree, WSBA_SPACE, WSCOOR_SPACE};
 use std::alloc::Global;
 

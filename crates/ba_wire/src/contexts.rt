@@ -1,7 +1,7 @@
 //! Coordination contexts in elements, both ways.
 ghost use Rattle.std.specs.Prelude.{◌≡◌, Ok, IfOk, codes};
-ghost use Rattle.ba_shape.specs.Endpoints.{IsAnswer};
-ghost use Rattle.ba_shape.specs.Shapes.{rows_misfit};
+ghost use Rattle.ba_soap_shapes.specs.Endpoints.{IsAnswer};
+ghost use Rattle.ba_soap_shapes.specs.Shapes.{rows_misfit};
 ghost use Rattle.ba_wire.specs.Bodies.{context_lines, part_look};
 ghost use Rattle.ba_wire.specs.Contexts.{IsPlainContext, TimeFits, context_answer, context_answer_by};
 ghost use Rattle.ba_wire.specs.Elements.{context_element};
@@ -11,7 +11,7 @@ use crate::elements::context_element;
 use crate::values;
 use ba_core::Memory;
 use ba_message::Context;
-use ba_shape::{EprFault, Misfit, fault_of, rows_misfit};
+use ba_soap_shapes::{EprFault, Misfit, fault_of, rows_misfit};
 use ba_tree::Tree;
 use std::alloc::Global;
 

@@ -3,14 +3,14 @@ ghost use Rattle.std.specs.Prelude.{◌≡◌, [], ◌∷◌, ◌++◌, IfOk, ma
 ghost use Rattle.ba_core.specs.Texts.{state_text};
 ghost use Rattle.ba_message.specs.Endpoints.{Fits};
 ghost use Rattle.ba_tree.specs.declared.trees.Content.TheVariants.{Child, Text};
-ghost use Rattle.ba_shape.specs.Endpoints.{bare_element, endpoint_element};
+ghost use Rattle.ba_soap_shapes.specs.Endpoints.{bare_element, endpoint_element};
 ghost use Rattle.ba_wire.specs.Elements.{body_element, body_of_message, body_of_notice, body_parts, context_element, context_parts, current_part, expires_part, family_of, fault_parts, kind_uri, notice_parts, prefix_of_family, protocol_uri, text_in_element, type_part, upward_part, wsba_name, wscoor_name};
 ghost use Rattle.ba_wire.specs.Envelopes.{ContextFits, EndpointsFit};
 
 use crate::bodies::Body;
 use ba_core::{Code, Kind, List, Memory, Notice, Octets, Protocol, StateName};
 use ba_message::{Context, Epr, Message};
-use ba_shape::{and, element, name, only, text_element, tree_of_epr};
+use ba_soap_shapes::{and, element, name, only, text_element, tree_of_epr};
 use ba_tree::{Content, OWN_SPACE, Tree, WSBA_SPACE, WSCOOR_SPACE};
 use itoa::Buffer;
 use std::alloc::Global;

@@ -4,7 +4,7 @@ ghost use Rattle.ba_wire.specs.Bodies.{is_upward, part_look, whole_look};
 
 use crate::bodies::CONTEXT;
 use ba_core::Memory;
-use ba_shape::{Form, Misfit, Plain, endpoint_misfit, mismatch, own_texts, rows_misfit};
+use ba_soap_shapes::{Form, Misfit, Plain, endpoint_misfit, mismatch, own_texts, rows_misfit};
 use ba_tree::Tree;
 use std::alloc::Global;
 

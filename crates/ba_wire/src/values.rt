@@ -1,11 +1,11 @@
 //! What elements of a body mean.
 ghost use Rattle.std.specs.Prelude.{bytes_eq, ◌≡◌, ℕ, IfOk, map, find, Some, None, ◌^◌, ◌<◌};
 ghost use Rattle.ba_core.specs.Texts.{code_text, state_text};
-ghost use Rattle.ba_shape.specs.Shapes.{line_of};
+ghost use Rattle.ba_soap_shapes.specs.Shapes.{line_of};
 ghost use Rattle.ba_wire.specs.declared.bodies.Body.TheVariants as body;
 ghost use Rattle.std.specs.Str.Parse.{digits_value};
-ghost use Rattle.ba_shape.specs.Forms.{is_number};
-ghost use Rattle.ba_shape.specs.Endpoints.{child_at};
+ghost use Rattle.ba_soap_shapes.specs.Forms.{is_number};
+ghost use Rattle.ba_soap_shapes.specs.Endpoints.{child_at};
 ghost use Rattle.ba_wire.specs.Bodies.{all_codes, number_by, states, context_in, current_context_line, upward_line, code_of, context_of, endpoint_at, kind_of, message_of, number_at, protocol_of, state_of, up_in};
 
 use crate::bodies::{
@@ -15,7 +15,7 @@ use crate::bodies::{
 };
 use ba_core::{Code, Kind, List, Memory, Notice, Protocol, StateName};
 use ba_message::{Context, Epr, Message};
-use ba_shape::{
+use ba_soap_shapes::{
     Row, child_at, endpoint_of, is_number, local_part, number_of, own_texts, text_at, text_of,
 };
 use ba_tree::Tree;

@@ -5,20 +5,20 @@ use Rattle.std.specs.Option.{option_map}
 use Rattle.ba_core.specs.declared.identifiers.Id.{Id}
 use Rattle.ba_core.specs.declared.protocols.Kind.{Kind}
 use Rattle.ba_core.specs.declared.protocols.Protocol.{Protocol}
-use Rattle.ba_events.specs.declared.outcomes.Outcome.{Outcome}
-use Rattle.ba_events.specs.declared.outcomes.Outcome.TheVariants as outcome
+use Rattle.ba_world_events.specs.declared.outcomes.Outcome.{Outcome}
+use Rattle.ba_world_events.specs.declared.outcomes.Outcome.TheVariants as outcome
 use Rattle.ba_message.specs.declared.messages.Context.{Context}
-use Rattle.ba_places.specs.Calls.{IsOfInput}
-use Rattle.ba_places.specs.declared.calls.Answer.{Answer}
-use Rattle.ba_places.specs.declared.calls.Answer.TheVariants as answer
-use Rattle.ba_places.specs.declared.places.Place.{Place}
-use Rattle.ba_play.specs.Plays.{WorldOnDisks, context_handed, create_at, deliver, delivery_by_input, has_node, join_at, lost_effect}
-use Rattle.ba_play.specs.Plays.{mail_at, moment, own_at, scope_named}
-use Rattle.ba_runs.specs.World.{Occasion, delivers}
+use Rattle.ba_world_places.specs.Calls.{IsOfInput}
+use Rattle.ba_world_places.specs.declared.calls.Answer.{Answer}
+use Rattle.ba_world_places.specs.declared.calls.Answer.TheVariants as answer
+use Rattle.ba_world_places.specs.declared.places.Place.{Place}
+use Rattle.ba_world_play.specs.Plays.{WorldOnDisks, context_handed, create_at, deliver, delivery_by_input, has_node, join_at, lost_effect}
+use Rattle.ba_world_play.specs.Plays.{mail_at, moment, own_at, scope_named}
+use Rattle.ba_world_runs.specs.World.{Occasion, delivers}
 use Rattle.ba_scope.specs.Scope.{ScopeState}
-use Rattle.ba_steps.specs.declared.answers.Reply.{Reply}
-use Rattle.ba_steps.specs.declared.inputs.Input.{Input}
-use Rattle.ba_steps.specs.declared.inputs.Input.TheVariants as input
+use Rattle.ba_node_steps.specs.declared.answers.Reply.{Reply}
+use Rattle.ba_node_steps.specs.declared.inputs.Input.{Input}
+use Rattle.ba_node_steps.specs.declared.inputs.Input.TheVariants as input
 use Rattle.ba_world.proofs.DeliveryLemmas.{arrive_fails, delivery_taken, delivery_untaken, due_there, here_plays, nowhere_plays}
 use Rattle.ba_world.proofs.EventLemmas.{starved}
 use Rattle.ba_world.proofs.NameLemmas.{create_under, handed_fails}

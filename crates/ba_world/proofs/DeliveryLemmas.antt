@@ -4,31 +4,31 @@ use Rattle.std.proofs.Common.{◌∙◌, subst, if◌then◌else◌}
 use Rattle.std.specs.Option.{option_to_list}
 use Rattle.ba_arrivals.specs.declared.mails.Mail.TheVariants as mail
 use Rattle.ba_core.specs.declared.identifiers.Id.{Id}
-use Rattle.ba_events.specs.declared.outcomes.Outcome.{Outcome}
-use Rattle.ba_events.specs.declared.outcomes.Outcome.TheVariants as outcome
+use Rattle.ba_world_events.specs.declared.outcomes.Outcome.{Outcome}
+use Rattle.ba_world_events.specs.declared.outcomes.Outcome.TheVariants as outcome
 use Rattle.ba_message.specs.declared.messages.Message.{Message}
 use Rattle.ba_message.specs.declared.messages.Message.TheVariants as message
-use Rattle.ba_places.specs.Calls.{IsCallAnswer}
-use Rattle.ba_places.specs.declared.calls.Answer.{Answer}
-use Rattle.ba_places.specs.declared.calls.Answer.TheVariants as answer
-use Rattle.ba_play.proofs.Arriving.{arrival_brings, mail_among}
-use Rattle.ba_play.proofs.Posted.{occasion_gives}
-use Rattle.ba_play.specs.Arrivals.{Arrival, arrival}
-use Rattle.ba_play.specs.Nodes.{NodeCall}
-use Rattle.ba_play.specs.Outcomes.{delivery_outcome, label_of, reply_outcome}
-use Rattle.ba_play.specs.Plays.{WorldEffect, WorldOnDisks, deliver, delivery_by_input, delivery_effect, effect_by_shown, effect_with}
-use Rattle.ba_play.specs.Plays.{has_node, if_has_node, mail_at, moment, next_number, with_node, with_sent}
-use Rattle.ba_play.specs.declared.missing.Missing.TheVariants as missing
-use Rattle.ba_runs.proofs.Recorded.{run_keeps}
-use Rattle.ba_runs.specs.World as runs
-use Rattle.ba_runs.specs.World.{WorldNode, delivers, net_of}
-use Rattle.ba_runs.specs.WorldSteps.{answer_to}
-use Rattle.ba_steps.specs.Endpoints.{GivesFit}
-use Rattle.ba_steps.specs.Lawful.{given}
-use Rattle.ba_steps.specs.Steps.{node_step}
-use Rattle.ba_steps.specs.declared.answers.Reply.{Reply}
-use Rattle.ba_steps.specs.declared.answers.Reply.TheVariants as reply
-use Rattle.ba_steps.specs.declared.inputs.Input.{Input}
+use Rattle.ba_world_places.specs.Calls.{IsCallAnswer}
+use Rattle.ba_world_places.specs.declared.calls.Answer.{Answer}
+use Rattle.ba_world_places.specs.declared.calls.Answer.TheVariants as answer
+use Rattle.ba_world_play.proofs.Arriving.{arrival_brings, mail_among}
+use Rattle.ba_world_play.proofs.Posted.{occasion_gives}
+use Rattle.ba_world_play.specs.Arrivals.{Arrival, arrival}
+use Rattle.ba_world_play.specs.Nodes.{NodeCall}
+use Rattle.ba_world_play.specs.Outcomes.{delivery_outcome, label_of, reply_outcome}
+use Rattle.ba_world_play.specs.Plays.{WorldEffect, WorldOnDisks, deliver, delivery_by_input, delivery_effect, effect_by_shown, effect_with}
+use Rattle.ba_world_play.specs.Plays.{has_node, if_has_node, mail_at, moment, next_number, with_node, with_sent}
+use Rattle.ba_world_play.specs.declared.missing.Missing.TheVariants as missing
+use Rattle.ba_world_runs.proofs.Recorded.{run_keeps}
+use Rattle.ba_world_runs.specs.World as runs
+use Rattle.ba_world_runs.specs.World.{WorldNode, delivers, net_of}
+use Rattle.ba_world_runs.specs.WorldSteps.{answer_to}
+use Rattle.ba_node_steps.specs.Endpoints.{GivesFit}
+use Rattle.ba_node_steps.specs.Lawful.{given}
+use Rattle.ba_node_steps.specs.Steps.{node_step}
+use Rattle.ba_node_steps.specs.declared.answers.Reply.{Reply}
+use Rattle.ba_node_steps.specs.declared.answers.Reply.TheVariants as reply
+use Rattle.ba_node_steps.specs.declared.inputs.Input.{Input}
 use Rattle.ba_world.proofs.ChildLemmas.{reply_is}
 use Rattle.ba_world.proofs.EventLemmas.{number_is, sent_none, sent_one, starved, taken_up}
 use Rattle.ba_world.specs.Worlds.{IsSetAs, IsStageOf, StageValue}

@@ -9,27 +9,27 @@ use Rattle.ba_arrivals.specs.declared.mails.Mail.{Mail}
 use Rattle.ba_arrivals.specs.declared.mails.Mail.TheVariants as mail
 use Rattle.ba_core.specs.Numbers.{node_of}
 use Rattle.ba_core.specs.declared.identifiers.Id.{Id}
-use Rattle.ba_events.specs.declared.outcomes.Outcome.{Outcome}
-use Rattle.ba_events.specs.declared.outcomes.Outcome.TheVariants as outcome
-use Rattle.ba_memory.specs.DiskValue.{MediumValue}
+use Rattle.ba_world_events.specs.declared.outcomes.Outcome.{Outcome}
+use Rattle.ba_world_events.specs.declared.outcomes.Outcome.TheVariants as outcome
+use Rattle.ba_ports_memory.specs.DiskValue.{MediumValue}
 use Rattle.ba_message.specs.declared.messages.Letter.{Letter}
-use Rattle.ba_places.specs.Calls.{CallLeadsTo, IsCallAnswer, IsLawfulNode, IsOfInput, MatchesBoth}
-use Rattle.ba_places.specs.Places.{IsPlaceOf, Matches}
-use Rattle.ba_places.specs.declared.calls.Answer.{Answer}
-use Rattle.ba_places.specs.declared.calls.Answer.TheVariants as answer
-use Rattle.ba_places.specs.declared.places.Place.{Place}
-use Rattle.ba_play.specs.Nodes.{NodeCall, NodeOnDisk, call_by_mode, node_call}
-use Rattle.ba_play.specs.Outcomes.{label_of, reply_outcome, tick_outcome}
-use Rattle.ba_play.specs.Plays.{EventEffect, WorldEffect, WorldOnDisks, effect_by_shown, effect_of_call, effect_with, has_node, if_has_node}
-use Rattle.ba_play.specs.Plays.{moment, next_number, own_at, wait_effect, with_node, with_sent}
-use Rattle.ba_play.specs.declared.missing.Missing.TheVariants as missing
-use Rattle.ba_runs.specs.World as runs
-use Rattle.ba_runs.specs.World.{Mode, Occasion, WorldNode, is_closed, is_down, is_up, own, ticks}
-use Rattle.ba_runs.specs.WorldSteps.{effect}
-use Rattle.ba_steps.specs.Steps.{node_step}
-use Rattle.ba_steps.specs.Ticks.{tick_step}
-use Rattle.ba_steps.specs.declared.answers.Reply.{Reply}
-use Rattle.ba_steps.specs.declared.inputs.Input.{Input}
+use Rattle.ba_world_places.specs.Calls.{CallLeadsTo, IsCallAnswer, IsLawfulNode, IsOfInput, MatchesBoth}
+use Rattle.ba_world_places.specs.Places.{IsPlaceOf, Matches}
+use Rattle.ba_world_places.specs.declared.calls.Answer.{Answer}
+use Rattle.ba_world_places.specs.declared.calls.Answer.TheVariants as answer
+use Rattle.ba_world_places.specs.declared.places.Place.{Place}
+use Rattle.ba_world_play.specs.Nodes.{NodeCall, NodeOnDisk, call_by_mode, node_call}
+use Rattle.ba_world_play.specs.Outcomes.{label_of, reply_outcome, tick_outcome}
+use Rattle.ba_world_play.specs.Plays.{EventEffect, WorldEffect, WorldOnDisks, effect_by_shown, effect_of_call, effect_with, has_node, if_has_node}
+use Rattle.ba_world_play.specs.Plays.{moment, next_number, own_at, wait_effect, with_node, with_sent}
+use Rattle.ba_world_play.specs.declared.missing.Missing.TheVariants as missing
+use Rattle.ba_world_runs.specs.World as runs
+use Rattle.ba_world_runs.specs.World.{Mode, Occasion, WorldNode, is_closed, is_down, is_up, own, ticks}
+use Rattle.ba_world_runs.specs.WorldSteps.{effect}
+use Rattle.ba_node_steps.specs.Steps.{node_step}
+use Rattle.ba_node_steps.specs.Ticks.{tick_step}
+use Rattle.ba_node_steps.specs.declared.answers.Reply.{Reply}
+use Rattle.ba_node_steps.specs.declared.inputs.Input.{Input}
 use Rattle.ba_world.proofs.ChildLemmas.{reply_is}
 use Rattle.ba_world.proofs.PlaceLemmas.{has_there, lawful_there, matches_there, none_there, set_again}
 use Rattle.ba_world.specs.Worlds.{IsSetAs, IsStageOf, StageValue}

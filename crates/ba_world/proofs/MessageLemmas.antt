@@ -7,16 +7,16 @@ use Rattle.ba_message.proofs.OwnEndpoints.{own_endpoint_fits}
 use Rattle.ba_message.specs.Endpoints.{Fits}
 use Rattle.ba_message.specs.declared.endpoints.Epr.{Epr}
 use Rattle.ba_message.specs.declared.messages.Letter.{Letter}
-use Rattle.ba_play.proofs.Arriving.{mail_among}
-use Rattle.ba_play.proofs.OwnAddresses.{registration_dials}
-use Rattle.ba_play.specs.Arrivals.{identifier_in, letter_input}
-use Rattle.ba_play.specs.Plays.{WorldOnDisks, mail_at, node_base}
-use Rattle.ba_play.specs.Posting.{CanBePosted}
-use Rattle.ba_runs.specs.World as runs
-use Rattle.ba_runs.specs.World.{Mail, Net, net_of, node_at}
-use Rattle.ba_steps.specs.Addresses.{registration_of}
-use Rattle.ba_steps.specs.Node.{NodeState}
-use Rattle.ba_steps.specs.declared.inputs.Input.{Input}
+use Rattle.ba_world_play.proofs.Arriving.{mail_among}
+use Rattle.ba_world_play.proofs.OwnAddresses.{registration_dials}
+use Rattle.ba_world_play.specs.Arrivals.{identifier_in, letter_input}
+use Rattle.ba_world_play.specs.Plays.{WorldOnDisks, mail_at, node_base}
+use Rattle.ba_world_play.specs.Posting.{CanBePosted}
+use Rattle.ba_world_runs.specs.World as runs
+use Rattle.ba_world_runs.specs.World.{Mail, Net, net_of, node_at}
+use Rattle.ba_node_steps.specs.Addresses.{registration_of}
+use Rattle.ba_node_steps.specs.Node.{NodeState}
+use Rattle.ba_node_steps.specs.declared.inputs.Input.{Input}
 use Rattle.ba_world.specs.Worlds.{IsStageOf, StageValue}
 use Rattle.ba_world.specs.declared.messages.Delivery.{Delivery}
 use Rattle.ba_world.specs.inside.Deliveries.{HasBases, IsDeliveryOf}

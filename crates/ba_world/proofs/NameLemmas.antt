@@ -3,19 +3,19 @@ use Rattle.std.proofs.Common.{ℕ, Option, Some, Result, Ok, Err, refl, sym, sub
 use Rattle.ba_core.specs.declared.identifiers.Id.{Id}
 use Rattle.ba_core.specs.declared.protocols.Kind.{Kind}
 use Rattle.ba_core.specs.declared.protocols.Protocol.{Protocol}
-use Rattle.ba_events.specs.declared.outcomes.Outcome.{Outcome}
+use Rattle.ba_world_events.specs.declared.outcomes.Outcome.{Outcome}
 use Rattle.ba_message.specs.declared.messages.Context.{Context}
-use Rattle.ba_play.specs.Plays.{EventEffect, WorldOnDisks, create_at, join_at, own_at, with_scope_named}
-use Rattle.ba_play.specs.declared.missing.Missing.TheVariants as missing
+use Rattle.ba_world_play.specs.Plays.{EventEffect, WorldOnDisks, create_at, join_at, own_at, with_scope_named}
+use Rattle.ba_world_play.specs.declared.missing.Missing.TheVariants as missing
 use Rattle.ba_scope.specs.Scope.{ScopeState}
-use Rattle.ba_steps.specs.Steps.{if_found}
-use Rattle.ba_steps.specs.declared.inputs.Input.TheVariants as input
+use Rattle.ba_node_steps.specs.Steps.{if_found}
+use Rattle.ba_node_steps.specs.declared.inputs.Input.TheVariants as input
 use Rattle.ba_world.proofs.EventLemmas.{starved}
 use Rattle.ba_world.specs.Worlds.{StageValue}
 use Rattle.ba_world.specs.declared.faults.StepFault.{StepFault}
 use Rattle.ba_world.specs.declared.faults.StepFault.TheVariants as fault
 use Rattle.ba_world.specs.inside.Stages.{IsContextNamed, StageIsPlayedAs}
-use Rattle.ba_play.specs.Plays.{context_handed}
+use Rattle.ba_world_play.specs.Plays.{context_handed}
 
 pub handed_fails : (v : StageValue) (p : WorldOnDisks) (id : Id) (next : ScopeState → EventEffect) (why : StepFault)
     → IsContextNamed p id (Err why) → StageIsPlayedAs (with_scope_named p id next) v v (Err why)

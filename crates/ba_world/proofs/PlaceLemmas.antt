@@ -9,23 +9,23 @@ use Rattle.std.specs.Option.{option_map}
 use Rattle.ba_core.specs.Numbers.{node_of}
 use Rattle.ba_core.specs.declared.identifiers.Id.{Id}
 use Rattle.ba_core.specs.declared.protocols.Kind.{Kind}
-use Rattle.ba_memory.specs.DiskValue.{DiskValue, MediumValue}
+use Rattle.ba_ports_memory.specs.DiskValue.{DiskValue, MediumValue}
 use Rattle.ba_node.specs.Nodes.{NodeOnJournal}
-use Rattle.ba_places.specs.Calls.{IsLawfulNode, MatchesBoth}
-use Rattle.ba_places.specs.Places.{IsPlaceOf, Matches, mode_of}
-use Rattle.ba_places.specs.declared.places.KnownScope.{KnownScope}
-use Rattle.ba_places.specs.declared.places.Place.{Place}
-use Rattle.ba_places.specs.declared.places.Place.TheVariants as place
-use Rattle.ba_play.proofs.NodeSteps.{at_here, at_other}
-use Rattle.ba_play.specs.Nodes.{NodeOnDisk}
-use Rattle.ba_play.specs.Plays.{WorldOnDisks, has_node, scope_named, with_at, with_node}
-use Rattle.ba_play.specs.declared.missing.Missing.TheVariants as missing
-use Rattle.ba_runs.proofs.OneReplay.{run_one}
-use Rattle.ba_runs.proofs.Recorded.{run_keeps}
-use Rattle.ba_runs.specs.World.{WorldNode}
+use Rattle.ba_world_places.specs.Calls.{IsLawfulNode, MatchesBoth}
+use Rattle.ba_world_places.specs.Places.{IsPlaceOf, Matches, mode_of}
+use Rattle.ba_world_places.specs.declared.places.KnownScope.{KnownScope}
+use Rattle.ba_world_places.specs.declared.places.Place.{Place}
+use Rattle.ba_world_places.specs.declared.places.Place.TheVariants as place
+use Rattle.ba_world_play.proofs.NodeSteps.{at_here, at_other}
+use Rattle.ba_world_play.specs.Nodes.{NodeOnDisk}
+use Rattle.ba_world_play.specs.Plays.{WorldOnDisks, has_node, scope_named, with_at, with_node}
+use Rattle.ba_world_play.specs.declared.missing.Missing.TheVariants as missing
+use Rattle.ba_world_runs.proofs.OneReplay.{run_one}
+use Rattle.ba_world_runs.proofs.Recorded.{run_keeps}
+use Rattle.ba_world_runs.specs.World.{WorldNode}
 use Rattle.ba_scope.specs.Scope.{ScopeState}
-use Rattle.ba_steps.specs.Node.{NodeState, scope_with_id}
-use Rattle.ba_steps.specs.Shown.{seen_at}
+use Rattle.ba_node_steps.specs.Node.{NodeState, scope_with_id}
+use Rattle.ba_node_steps.specs.Shown.{seen_at}
 use Rattle.ba_world.specs.Worlds.{IsSetAs, IsStageOf, StageValue, is_node_up, is_running, seen_in}
 use Rattle.ba_world.specs.declared.faults.StepFault.TheVariants as fault
 use Rattle.ba_world.specs.inside.Stages.{IsKindNamed, IsTakenOut, place_at, with_place}

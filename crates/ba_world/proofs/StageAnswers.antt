@@ -6,17 +6,17 @@ use Rattle.std.specs.List.{AllByRecursion}
 use Rattle.std.specs.Result.{OnOk, is_err}
 use Rattle.ba_arrivals.specs.Mails.{mail_of}
 use Rattle.ba_arrivals.specs.declared.mails.Mail.{Mail}
-use Rattle.ba_memory.specs.DiskValue.{DiskValue, MediumValue}
-use Rattle.ba_places.specs.Places.{Matches, disk_at}
-use Rattle.ba_places.specs.declared.places.Place.{Place}
-use Rattle.ba_places.specs.declared.places.Place.TheVariants as place
-use Rattle.ba_play.proofs.Bases.{base_in_range}
-use Rattle.ba_play.proofs.Posted.{start_posts}
-use Rattle.ba_play.specs.Plays.{WorldOnDisks, disk_at_start, node_base, starting_play, world_at_start}
-use Rattle.ba_play.specs.Shows.{numbers_from}
-use Rattle.ba_runs.specs.Runs.{IsFirstWorld, node_at_start, starts}
-use Rattle.ba_runs.specs.World.{WorldNode}
-use Rattle.ba_runs.specs.World as runs
+use Rattle.ba_ports_memory.specs.DiskValue.{DiskValue, MediumValue}
+use Rattle.ba_world_places.specs.Places.{Matches, disk_at}
+use Rattle.ba_world_places.specs.declared.places.Place.{Place}
+use Rattle.ba_world_places.specs.declared.places.Place.TheVariants as place
+use Rattle.ba_world_play.proofs.Bases.{base_in_range}
+use Rattle.ba_world_play.proofs.Posted.{start_posts}
+use Rattle.ba_world_play.specs.Plays.{WorldOnDisks, disk_at_start, node_base, starting_play, world_at_start}
+use Rattle.ba_world_play.specs.Shows.{numbers_from}
+use Rattle.ba_world_runs.specs.Runs.{IsFirstWorld, node_at_start, starts}
+use Rattle.ba_world_runs.specs.World.{WorldNode}
+use Rattle.ba_world_runs.specs.World as runs
 use Rattle.ba_world.specs.Worlds.{AreDisksOf, IsSetAs, IsStageOf, StageValue}
 use Rattle.ba_world.specs.inside.Stages.{ArePlacesAtStart}
 

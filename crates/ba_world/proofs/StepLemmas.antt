@@ -1,20 +1,20 @@
 -- After an event the world is that of the play after it, whose worlds are a run; for the clauses of `step`.
 use Rattle.std.proofs.Common.{◌≡◌, ℕ, ◌+◌, ◌-◌, ◌<◌, ◌^◌, false, ◌∷◌, length, slice_get, Option, None, Some, Result, Ok, Err, refl, sym, ap}
 use Rattle.std.proofs.Common.{subst, arith}
-use Rattle.ba_events.specs.declared.events.Event.{Event}
-use Rattle.ba_events.specs.declared.outcomes.Outcome.{Outcome}
-use Rattle.ba_memory.specs.DiskValue.{MediumValue}
-use Rattle.ba_places.specs.Places.{Matches}
-use Rattle.ba_places.specs.declared.places.Place.{Place}
-use Rattle.ba_places.specs.declared.places.Place.TheVariants as place
-use Rattle.ba_play.proofs.EventSteps.{steps_in_run}
-use Rattle.ba_play.proofs.Posted.{step_posts}
-use Rattle.ba_play.specs.Disks.{HaveSpare}
-use Rattle.ba_play.specs.Plays.{EventEffect, WorldEffect, WorldOnDisks, play_step}
-use Rattle.ba_runs.proofs.Recorded.{run_keeps}
-use Rattle.ba_runs.specs.Runs.{goes_on}
-use Rattle.ba_runs.specs.World.{WorldNode, is_up}
-use Rattle.ba_steps.specs.Fits.{HasSpareCounters}
+use Rattle.ba_world_events.specs.declared.events.Event.{Event}
+use Rattle.ba_world_events.specs.declared.outcomes.Outcome.{Outcome}
+use Rattle.ba_ports_memory.specs.DiskValue.{MediumValue}
+use Rattle.ba_world_places.specs.Places.{Matches}
+use Rattle.ba_world_places.specs.declared.places.Place.{Place}
+use Rattle.ba_world_places.specs.declared.places.Place.TheVariants as place
+use Rattle.ba_world_play.proofs.EventSteps.{steps_in_run}
+use Rattle.ba_world_play.proofs.Posted.{step_posts}
+use Rattle.ba_world_play.specs.Disks.{HaveSpare}
+use Rattle.ba_world_play.specs.Plays.{EventEffect, WorldEffect, WorldOnDisks, play_step}
+use Rattle.ba_world_runs.proofs.Recorded.{run_keeps}
+use Rattle.ba_world_runs.specs.Runs.{goes_on}
+use Rattle.ba_world_runs.specs.World.{WorldNode, is_up}
+use Rattle.ba_node_steps.specs.Fits.{HasSpareCounters}
 use Rattle.ba_world.proofs.PlaceLemmas.{some_within}
 use Rattle.ba_world.specs.Worlds.{IsPlayed, IsPlayedAs, IsSetAs, IsStageOf, StageValue}
 use Rattle.ba_world.specs.declared.faults.StepFault.{StepFault}

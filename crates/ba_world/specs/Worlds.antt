@@ -4,17 +4,17 @@ use Rattle.ba_arrivals.specs.Mails.{mail_of}
 use Rattle.ba_arrivals.specs.declared.mails.Mail.{Mail}
 use Rattle.ba_core.specs.Numbers.{node_of}
 use Rattle.ba_core.specs.declared.identifiers.Id.{Id}
-use Rattle.ba_events.specs.declared.outcomes.Outcome.{Outcome}
-use Rattle.ba_memory.specs.DiskValue.{DiskValue}
-use Rattle.ba_places.specs.Places.{Matches}
-use Rattle.ba_places.specs.declared.places.Place.{Place}
-use Rattle.ba_play.specs.Plays.{EventEffect, WorldOnDisks, has_node}
-use Rattle.ba_play.specs.Posting.{CanPost}
-use Rattle.ba_play.specs.Shows.{numbers_from}
-use Rattle.ba_runs.specs.Runs.{IsRun}
-use Rattle.ba_runs.specs.World.{Mode, World, is_closed, is_down, is_up}
-use Rattle.ba_steps.specs.Shown.{seen_at}
-use Rattle.ba_steps.specs.declared.answers.Seen.{Seen}
+use Rattle.ba_world_events.specs.declared.outcomes.Outcome.{Outcome}
+use Rattle.ba_ports_memory.specs.DiskValue.{DiskValue}
+use Rattle.ba_world_places.specs.Places.{Matches}
+use Rattle.ba_world_places.specs.declared.places.Place.{Place}
+use Rattle.ba_world_play.specs.Plays.{EventEffect, WorldOnDisks, has_node}
+use Rattle.ba_world_play.specs.Posting.{CanPost}
+use Rattle.ba_world_play.specs.Shows.{numbers_from}
+use Rattle.ba_world_runs.specs.Runs.{IsRun}
+use Rattle.ba_world_runs.specs.World.{Mode, World, is_closed, is_down, is_up}
+use Rattle.ba_node_steps.specs.Shown.{seen_at}
+use Rattle.ba_node_steps.specs.declared.answers.Seen.{Seen}
 use Rattle.ba_tree.specs.Lengths.{in_u64}
 use Rattle.ba_world.specs.declared.faults.StepFault.{StepFault}
 use Rattle.ba_world.specs.declared.faults.StepFault.TheVariants as fault

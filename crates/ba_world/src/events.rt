@@ -2,14 +2,14 @@
 ghost use Rattle.std.specs.Prelude.{◌≡◌, IfErr, IfOk, Ok};
 ghost use Rattle.ba_core.specs.Numbers.{node_of};
 ghost use Rattle.ba_message.specs.Endpoints.{Fits};
-ghost use Rattle.ba_memory.specs.DiskValue.{MediumValue};
-ghost use Rattle.ba_places.specs.Calls.{IsOfInput};
-ghost use Rattle.ba_places.specs.Places.{IsPlaceOf};
-ghost use Rattle.ba_play.specs.Plays.{WorldOnDisks, create_at, deliver, join_at, mail_at, moment, own_at, play_step};
+ghost use Rattle.ba_ports_memory.specs.DiskValue.{MediumValue};
+ghost use Rattle.ba_world_places.specs.Calls.{IsOfInput};
+ghost use Rattle.ba_world_places.specs.Places.{IsPlaceOf};
+ghost use Rattle.ba_world_play.specs.Plays.{WorldOnDisks, create_at, deliver, join_at, mail_at, moment, own_at, play_step};
 ghost use Rattle.ba_ports.specs.Disk.{fail, stop};
-ghost use Rattle.ba_runs.specs.World.{Occasion, WorldNode, is_up, ticks};
-ghost use Rattle.ba_steps.specs.Endpoints.{GivesFit};
-ghost use Rattle.ba_steps.specs.Lawful.{given};
+ghost use Rattle.ba_world_runs.specs.World.{Occasion, WorldNode, is_up, ticks};
+ghost use Rattle.ba_node_steps.specs.Endpoints.{GivesFit};
+ghost use Rattle.ba_node_steps.specs.Lawful.{given};
 ghost use Rattle.ba_world.specs.Worlds.{IsStageOf};
 ghost use Rattle.ba_world.specs.inside.Shown.{is_child, next_made};
 ghost use Rattle.ba_world.specs.inside.Stages.{AreMade, IsCalled, IsContextNamed, IsLetterAt, IsNotCalled, IsReplyAt, IsStaged, StagePlays, arm_at, crash_at, lost_at, node_call_at, open_at, tick_at, wait_at};
@@ -20,13 +20,13 @@ use crate::outcomes::{Makes, answer_outcome, label_of};
 use crate::stages::Stage;
 use ba_arrivals::Mail;
 use ba_core::{Id, Kind, Protocol};
-use ba_events::{Event, Outcome};
 use ba_message::{Context, Letter};
-use ba_places::{
+use ba_node_steps::{Input, Reply};
+use ba_ports::Image;
+use ba_world_events::{Event, Outcome};
+use ba_world_places::{
     Answer, Place, arm_failure, arm_stop, call_input, call_nothing, call_tick, crash, open,
 };
-use ba_ports::Image;
-use ba_steps::{Input, Reply};
 
 impl Stage {
     /// An event happens.

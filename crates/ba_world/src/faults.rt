@@ -1,7 +1,7 @@
 //! Why an event of a world wasn't played.
 
 use ba_core::Memory;
-use ba_play::Missing;
+use ba_world_play::Missing;
 use thiserror::Error;
 
 /// Why an event wasn't played.

@@ -3,11 +3,11 @@ ghost use Rattle.std.specs.Prelude.{◌≡◌, ◌+◌, ◌++◌, [], ◌∷◌,
 ghost use Rattle.std.specs.Option.{option_map};
 ghost use Rattle.ba_arrivals.specs.Mails.{mail_of};
 ghost use Rattle.ba_message.specs.Letters.{IsPostable, IsReply};
-ghost use Rattle.ba_play.specs.Posting.{CanBePosted};
-ghost use Rattle.ba_runs.specs.World as runs;
-ghost use Rattle.ba_runs.specs.World.{Net};
+ghost use Rattle.ba_world_play.specs.Posting.{CanBePosted};
+ghost use Rattle.ba_world_runs.specs.World as runs;
+ghost use Rattle.ba_world_runs.specs.World.{Net};
 ghost use Rattle.ba_message.specs.Endpoints.{Fits};
-ghost use Rattle.ba_play.specs.Plays.{WorldOnDisks, context_handed, mail_at};
+ghost use Rattle.ba_world_play.specs.Plays.{WorldOnDisks, context_handed, mail_at};
 ghost use Rattle.ba_scope.specs.Scope.{ScopeState};
 ghost use Rattle.ba_world.specs.Worlds.{IsStageOf};
 ghost use Rattle.ba_world.specs.inside.Deliveries.{HasBases, IsDeliveryOf};
@@ -16,16 +16,16 @@ ghost use Rattle.ba_world.specs.inside.Stages.{IsArrival, IsReplySent, IsStaged,
 use crate::faults::StepFault;
 use crate::outcomes::{Makes, label_of, reply_outcome};
 use crate::stages::Stage;
-use ba_addresses::{context_identifier, registration_of};
 use ba_arrivals::{
     Mail, answer_input, identifier_in, letter_input, posted, posted_answer, sender_of,
 };
 use ba_core::{Id, Kind, Memory};
-use ba_events::Outcome;
 use ba_message::{Context, Letter, Message};
-use ba_places::base_of;
-use ba_play::Missing;
-use ba_steps::{Input, Reply};
+use ba_node_addresses::{context_identifier, registration_of};
+use ba_node_steps::{Input, Reply};
+use ba_world_events::Outcome;
+use ba_world_places::base_of;
+use ba_world_play::Missing;
 use std::alloc::Global;
 
 /// Where a message goes.

@@ -1,13 +1,13 @@
 //! What a call of a node shows.
 ghost use Rattle.std.specs.Prelude.{◌≡◌};
-ghost use Rattle.ba_play.specs.Outcomes.{label_of, refused_outcome};
+ghost use Rattle.ba_world_play.specs.Outcomes.{label_of, refused_outcome};
 ghost use Rattle.ba_world.specs.inside.Shown.{answer_shown, reply_shown};
 
 use ba_core::{Code, Id};
-use ba_events::{Label, Outcome};
 use ba_message::Message;
-use ba_places::Answer;
-use ba_steps::{BAD_ADDRESS, Reply};
+use ba_node_steps::{BAD_ADDRESS, Reply};
+use ba_world_events::{Label, Outcome};
+use ba_world_places::Answer;
 
 /// What an input makes where it makes a scope.
 #[derive(Clone, Copy, Debug, PartialEq, Eq)]

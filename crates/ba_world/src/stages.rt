@@ -1,18 +1,18 @@
 //! What is played: the clock, the bag, and where each node is.
 ghost use Rattle.std.specs.Prelude.{◌≡◌, true, IfErr, IfOk, IsTrue, is_some};
 ghost use Rattle.std.specs.Option.{option_map};
-ghost use Rattle.ba_play.specs.Plays.{WorldOnDisks, scope_named, starting_play};
-ghost use Rattle.ba_steps.specs.Node.{last};
+ghost use Rattle.ba_world_play.specs.Plays.{WorldOnDisks, scope_named, starting_play};
+ghost use Rattle.ba_node_steps.specs.Node.{last};
 ghost use Rattle.ba_world.specs.Worlds.{AreDisksOf, IsStageOf, is_node_up, seen_in};
 ghost use Rattle.ba_world.specs.inside.Stages.{ArePlacesAtStart, IsKindNamed, IsNotThere, IsTakenOut, place_at, with_place};
 
 use crate::faults::StepFault;
 use ba_arrivals::Mail;
 use ba_core::{Id, Kind, List, Memory};
-use ba_memory::MemDisk;
-use ba_places::{Place, first_place};
-use ba_play::Missing;
-use ba_steps::Seen;
+use ba_node_steps::Seen;
+use ba_ports_memory::MemDisk;
+use ba_world_places::{Place, first_place};
+use ba_world_play::Missing;
 use std::alloc::Global;
 use std::marker::Model;
 use std::mem;

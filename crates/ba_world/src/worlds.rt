@@ -1,7 +1,7 @@
 //! A world of nodes over disks in memory, and the bag of all messages between them.
 ghost use Rattle.std.specs.Prelude.{◌≡◌, true, false, length, IfOk, Err};
-ghost use Rattle.ba_play.specs.Plays.{WorldOnDisks, play_step, starting_play};
-ghost use Rattle.ba_steps.specs.Node.{last};
+ghost use Rattle.ba_world_play.specs.Plays.{WorldOnDisks, play_step, starting_play};
+ghost use Rattle.ba_node_steps.specs.Node.{last};
 ghost use Rattle.ba_world.specs.Worlds.{AreDisksOf, IsPlayedAs, IsWorldOf, is_node_up, seen_in};
 ghost use Rattle.ba_world.specs.declared.faults.StepFault.TheVariants as fault;
 ghost use Rattle.ba_world.specs.inside.Stages.{is_starved};
@@ -9,9 +9,9 @@ ghost use Rattle.ba_world.specs.inside.Stages.{is_starved};
 use crate::faults::StepFault;
 use crate::stages::Stage;
 use ba_core::{Id, List, Memory};
-use ba_events::{Event, Outcome};
-use ba_memory::MemDisk;
-use ba_steps::Seen;
+use ba_node_steps::Seen;
+use ba_ports_memory::MemDisk;
+use ba_world_events::{Event, Outcome};
 use std::alloc::Global;
 use std::marker::Model;
 

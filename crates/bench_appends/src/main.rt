@@ -2,8 +2,8 @@
 #![tactic(auto)]
 
 use ba_journal::{Journal, JournalFault};
+use ba_ports_system::FileDisk;
 use ba_record::Record;
-use ba_system::FileDisk;
 use std::env;
 use std::fs::{File, OpenOptions};
 use std::process::ExitCode;

@@ -5,8 +5,8 @@
 
 use ba_core::List;
 use ba_http::{read_reply, read_request};
-use ba_memory::{Out, ScriptLink, Text};
 use ba_ports::Link;
+use ba_ports_memory::{Out, ScriptLink, Text};
 use std::alloc::{AllocError, Global};
 use std::process::ExitCode;
 use std::{env, fs};

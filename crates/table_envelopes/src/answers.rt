@@ -3,16 +3,16 @@ ghost use Rattle.std.specs.Prelude.{IsTrue};
 ghost use Rattle.ba_wire.specs.Envelopes.{CanEncode, HasEnvelope, is_known};
 
 use crate::rows::envelope_bytes;
-use ba_canonical::{decode, encode};
 use ba_core::{Kind, Notice, Protocol, name_of};
 use ba_message::{Context, Message};
 use ba_soap::{Header, SoapFault};
 use ba_wire::{Decoded, Route, WireFault, envelope_tree, is_known};
+use ba_wire_short::{decode, encode};
 use ba_xml::writable;
-use std::alloc::{AllocError, Global};
-use table_trees::{
+use rows_of_trees::{
     put_bytes, put_context, put_endpoint, put_expiry, put_kind, put_named, put_trees,
 };
+use std::alloc::{AllocError, Global};
 
 /// The answer to a row.
 pub fn answer(alloc: Global, row: &str) -> Result<String, AllocError> {

@@ -1,7 +1,7 @@
 //! The forms of rows, and how rows write bytes.
 
+use rows_of_bytes::{put_piece, repeated};
 use std::alloc::{AllocError, Global};
-use table_rows::{put_piece, repeated};
 
 /// The start tag of the envelopes that rows write in parts.
 const START: &str =

@@ -4,10 +4,10 @@ use crate::rows::{Form, form_of};
 use ba_core::List;
 use ba_http::{Reply, Request, read_reply, read_request};
 use ba_http_head::HttpFault;
-use ba_memory::{Out, ScriptLink, Text};
 use ba_ports::Link;
+use ba_ports_memory::{Out, ScriptLink, Text};
+use rows_of_bytes::bytes_of;
 use std::alloc::{AllocError, Global};
-use table_rows::bytes_of;
 
 /// The answer to a row.
 pub fn answer(alloc: Global, row: &str) -> Result<String, AllocError> {

@@ -1,8 +1,8 @@
 //! The answers to rows.
 
 use crate::{appends, disks, listings, loads, records};
+use rows_of_bytes::bytes_of;
 use std::alloc::{AllocError, Global};
-use table_rows::bytes_of;
 
 /// The answer to a row.
 pub fn answer(alloc: Global, row: &str) -> Result<String, AllocError> {

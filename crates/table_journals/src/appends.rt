@@ -3,8 +3,8 @@ ghost use Rattle.std.specs.Prelude.{◌≡◌, ◌+◌, ◌≤◌, length, None,
 
 use crate::shown::{IMAGES, disk_of, put_file};
 use ba_journal::{Journal, JournalFault};
-use ba_memory::MemDisk;
 use ba_ports::{Disk, Faulty};
+use ba_ports_memory::MemDisk;
 use ba_record::Record;
 use std::alloc::{AllocError, Global};
 

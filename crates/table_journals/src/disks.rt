@@ -1,11 +1,11 @@
 //! What a stop leaves on a disk in memory.
 
 use crate::shown::{IMAGES, disk_of};
-use ba_memory::MemDisk;
 use ba_ports::{Disk, Failed, Faulty, Image};
+use ba_ports_memory::MemDisk;
+use rows_of_bytes::bytes_of;
+use rows_of_trees::put_bytes;
 use std::alloc::{AllocError, Global};
-use table_rows::bytes_of;
-use table_trees::put_bytes;
 
 /// What a row has a disk do, whose last call a stop meets.
 #[derive(Clone, Copy)]

@@ -1,9 +1,9 @@
 //! What a scan finds in a file.
 
+use ba_cmd_journal::{ListFault, journal, list};
 use ba_core::{List, Octets};
 use ba_journal::{ScanFault, scan};
-use ba_listing::{ListFault, journal, list};
-use ba_memory::{Out, Text};
+use ba_ports_memory::{Out, Text};
 use std::alloc::{AllocError, Global};
 
 /// Appends the listing of a file, which the command has to print too, or why there is none.

@@ -2,8 +2,8 @@
 
 use crate::shown::{IMAGES, disk_of, put_file};
 use ba_journal::{Journal, JournalFault};
-use ba_memory::MemDisk;
 use ba_ports::{Faulty, Image};
+use ba_ports_memory::MemDisk;
 use std::alloc::{AllocError, Global};
 
 /// How many records a load has found, or its fault; and the disk.

@@ -1,12 +1,12 @@
 //! What bytes are read as, where they are a record.
 ghost use Rattle.ba_record.specs.Coding.{InRange};
 
+use ba_cmd_journal::put_line;
 use ba_core::List;
-use ba_listing::put_line;
 use ba_message::Epr;
 use ba_record::{Record, RecordFault, get, put, size_of};
+use rows_of_trees::{put_bytes, put_tree};
 use std::alloc::{AllocError, Global};
-use table_trees::{put_bytes, put_tree};
 
 /// Appends the record that these bytes are, or why they are none.
 pub fn put_reading(alloc: Global, bytes: &[u8], out: &mut String) -> Result<(), AllocError> {

@@ -1,10 +1,10 @@
 //! Bytes and files as the table shows them.
 
 use ba_core::List;
-use ba_memory::MemDisk;
 use ba_ports::Image;
+use ba_ports_memory::MemDisk;
+use rows_of_trees::put_bytes;
 use std::alloc::{AllocError, Global};
-use table_trees::put_bytes;
 
 /// What a stop may leave, in the order of the answers.
 pub const IMAGES: [Image; 4] = [Image::Old, Image::New, Image::Filled, Image::Half];

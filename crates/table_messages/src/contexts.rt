@@ -4,11 +4,11 @@ ghost use Rattle.ba_soap.specs.Elements.{is_bare_text};
 
 use ba_core::Memory;
 use ba_message::Context;
-use ba_shape::EprFault;
+use ba_soap_shapes::EprFault;
 use ba_tree::{Tree, bare_ends};
 use ba_wire::{context_of, tree_of_context};
+use rows_of_trees::{put_context, shown_context};
 use std::alloc::{AllocError, Global};
-use table_trees::{put_context, shown_context};
 
 // ---- copies
 

@@ -1,8 +1,8 @@
 //! Addresses and endpoint references.
 
 use ba_message::{Epr, dialable};
+use rows_of_trees::shown_endpoint;
 use std::alloc::{AllocError, Global};
-use table_trees::shown_endpoint;
 
 /// Appends whether an address can be dialed.
 pub fn put_dialable(address: &[u8], out: &mut String) -> Result<(), AllocError> {

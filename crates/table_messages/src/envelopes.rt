@@ -2,14 +2,14 @@
 
 use ba_core::{Id, List, Memory, Notice};
 use ba_message::{Letter, Message};
-use ba_shape::text_of;
+use ba_soap_shapes::text_of;
 use ba_tree::Tree;
 use ba_wire::{
     Decoded, Route, WireFault, decode, decode_tree, envelope_tree, message_name, route_of,
 };
 use ba_xml::{XmlFault, read, writable};
+use rows_of_trees::{put_bytes, put_named, put_text, put_trees, shown_endpoint};
 use std::alloc::{AllocError, Global};
-use table_trees::{put_bytes, put_named, put_text, put_trees, shown_endpoint};
 
 // ---- routes
 

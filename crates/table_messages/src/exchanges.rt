@@ -1,12 +1,12 @@
 //! What the command that checks an envelope prints, and what is written to a connection.
 
-use ba_check::{CheckFault, check};
+use ba_cmd_check::{CheckFault, check};
 use ba_core::List;
 use ba_http_writer::{Body, WriteFault, write_request, write_response};
-use ba_memory::{Out, ScriptLink, Text};
 use ba_message::dialable;
+use ba_ports_memory::{Out, ScriptLink, Text};
+use rows_of_trees::put_bytes;
 use std::alloc::{AllocError, Global};
-use table_trees::put_bytes;
 
 // ---- the command
 

@@ -1,7 +1,7 @@
 //! How rows write bytes.
 
+use rows_of_bytes::{put_piece, repeated};
 use std::alloc::{AllocError, Global};
-use table_rows::{put_piece, repeated};
 
 /// The bytes that a row writes.
 pub fn bytes_of(alloc: Global, written: &str) -> Result<Vec<u8>, AllocError> {

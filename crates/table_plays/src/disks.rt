@@ -1,9 +1,9 @@
 //! Rows that show the disks that a play of a world hands out.
 
 use crate::rows::script_bytes;
+use ba_cmd_replay::replay;
 use ba_core::{List, Octets};
-use ba_memory::{Out, Text};
-use ba_replay::replay;
+use ba_ports_memory::{Out, Text};
 use std::alloc::{AllocError, Global};
 
 /// The disks that the replay of a script hands out, node by node, in hexadecimal digits, and how it ended.

@@ -1,7 +1,7 @@
 //! The forms of rows, and how rows write bytes.
 
+use rows_of_bytes::bytes_of;
 use std::alloc::{AllocError, Global};
-use table_rows::bytes_of;
 
 /// What happens to a replay from outside.
 #[derive(Clone, Copy)]

@@ -1,9 +1,9 @@
 //! The replay of a script in memory.
 
 use crate::rows::Condition;
+use ba_cmd_replay::{ReplayFault, replay};
 use ba_core::{List, Octets};
-use ba_memory::{Out, Text};
-use ba_replay::{ReplayFault, replay};
+use ba_ports_memory::{Out, Text};
 use std::alloc::{AllocError, Global};
 
 /// What a replay printed, and why it ended early.

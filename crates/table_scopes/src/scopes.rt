@@ -1,9 +1,9 @@
 //! Scopes, and their participants.
 
 use ba_core::{Id, Kind, List, PState, Protocol, number_of};
-use ba_ends::Part;
 use ba_message::Epr;
 use ba_scope::{EnrolFault, Scope};
+use ba_scope_ends::Part;
 use std::alloc::{AllocError, Global};
 
 /// The scope that a row makes.

@@ -1,6 +1,6 @@
 //! The steps on the participant of a child.
 ghost use Rattle.std.specs.Prelude.{◌≡◌};
-ghost use Rattle.ba_ends.specs.Parts.{is_registering};
+ghost use Rattle.ba_scope_ends.specs.Parts.{is_registering};
 
 use crate::answers::put_notice;
 use crate::ends::notice_named;

@@ -5,9 +5,9 @@ use crate::shown::put_fault;
 use ba_core::List;
 use ba_tree::Tree;
 use ba_xml::{Reason, XmlFault, read, writable, write};
+use rows_of_bytes::bytes_of;
+use rows_of_trees::{put_bytes, put_tree, shown_tree};
 use std::alloc::{AllocError, Global};
-use table_rows::bytes_of;
-use table_trees::{put_bytes, put_tree, shown_tree};
 
 /// What stands before the one text where that is put.
 const BEFORE: &[u8] = b"<!-- before -->";

@@ -5,8 +5,8 @@ ghost use Rattle.std.specs.Prelude.{◌≡◌, ◌+◌, ◌≤◌, length, None,
 use ba_core::Memory;
 use ba_journal::Journal;
 use ba_ports::Disk;
+use ba_ports_system::FileDisk;
 use ba_record::Record;
-use ba_system::FileDisk;
 use std::alloc::Global;
 use std::fs::{File, OpenOptions};
 use std::test::Fail;

@@ -1,9 +1,9 @@
 //! A reader, a writer, a file, a connection and a clock are used once through their traits, with a failure in
 //! the middle.
 
-use ba_memory::FixedClock;
 use ba_ports::{Clock, Disk, Failed, Link, Sink, Source};
-use ba_system::{FileDisk, ReadSource, SystemClock, TcpLink, WriteSink};
+use ba_ports_memory::FixedClock;
+use ba_ports_system::{FileDisk, ReadSource, SystemClock, TcpLink, WriteSink};
 use std::fs::OpenOptions;
 use std::io::{ErrorKind, Read, Write};
 use std::net::{TcpListener, TcpStream};

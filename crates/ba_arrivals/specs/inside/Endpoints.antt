@@ -7,9 +7,9 @@ use Rattle.ba_core.specs.declared.protocols.Side.TheVariants.{Coordinator, Parti
 use Rattle.ba_message.specs.Endpoints.{same_epr}
 use Rattle.ba_message.specs.declared.endpoints.Epr.{Epr}
 use Rattle.ba_message.specs.declared.messages.Message.{Message}
-use Rattle.ba_play.specs.Arrivals.{notice_input, register_input}
-use Rattle.ba_steps.specs.Addresses.{coordinator_of, participant_of, registration_of}
-use Rattle.ba_steps.specs.declared.inputs.Input.{Input}
+use Rattle.ba_world_play.specs.Arrivals.{notice_input, register_input}
+use Rattle.ba_node_steps.specs.Addresses.{coordinator_of, participant_of, registration_of}
+use Rattle.ba_node_steps.specs.declared.inputs.Input.{Input}
 
 abbrev pub object_endpoint : List ℕ → Id → Epr → Option Endpoint
 object_endpoint base id to =

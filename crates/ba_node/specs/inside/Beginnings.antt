@@ -11,9 +11,9 @@ use Rattle.ba_ports.specs.Causes.{Rose}
 use Rattle.ba_ports.specs.Disk.{InTurn, LeavesOnly}
 use Rattle.ba_ports.specs.declared.requests.Call.{Call}
 use Rattle.ba_record.specs.declared.records.Record.{Record}
-use Rattle.ba_steps.specs.Endpoints.{AllReachable}
-use Rattle.ba_steps.specs.Lawful.{Replays}
-use Rattle.ba_steps.specs.Node.{NodeState}
+use Rattle.ba_node_steps.specs.Endpoints.{AllReachable}
+use Rattle.ba_node_steps.specs.Lawful.{Replays}
+use Rattle.ba_node_steps.specs.Node.{NodeState}
 
 -- the node with this number and base is the replay of the records, and keeps only endpoints that can be written to
 pub record IsReplay (number : ℕ) (base : List ℕ) (records : List Record) (n : NodeState) : Type 0 where

@@ -10,11 +10,11 @@ use Rattle.ba_ports.specs.Causes.{Rose}
 use Rattle.ba_ports.specs.Disk.{LeavesOnly}
 use Rattle.ba_ports.specs.declared.requests.Call.{Call}
 use Rattle.ba_record.specs.declared.records.Record.{Record}
-use Rattle.ba_steps.specs.Endpoints.{GivesFit}
-use Rattle.ba_steps.specs.Lawful.{Change, Event, change}
-use Rattle.ba_steps.specs.Node.{NodeState}
-use Rattle.ba_steps.specs.Steps.{NodeStep}
-use Rattle.ba_steps.specs.Ticks.{TickStep}
+use Rattle.ba_node_steps.specs.Endpoints.{GivesFit}
+use Rattle.ba_node_steps.specs.Lawful.{Change, Event, change}
+use Rattle.ba_node_steps.specs.Node.{NodeState}
+use Rattle.ba_node_steps.specs.Steps.{NodeStep}
+use Rattle.ba_node_steps.specs.Ticks.{TickStep}
 
 -- the change that is due by a step, and by a tick
 abbrev pub due_by_step : NodeStep → Change

@@ -3,8 +3,8 @@ use Rattle.std.specs.Prelude.{Some, map}
 use Rattle.std.specs.Option.{option_map}
 use Rattle.ba_core.specs.declared.notices.Act.{Act}
 use Rattle.ba_core.specs.declared.protocols.Verdict.TheVariants.{Undo}
-use Rattle.ba_ends.specs.Ends.{end_with_verdict_if_none}
-use Rattle.ba_ends.specs.Parts.{acting_part}
+use Rattle.ba_scope_ends.specs.Ends.{end_with_verdict_if_none}
+use Rattle.ba_scope_ends.specs.Parts.{acting_part}
 use Rattle.ba_scope.specs.Scope.{ScopeState}
 
 -- the scope whose upward part, if any, acts

@@ -1,11 +1,11 @@
 -- Inside: the events that were read so far.
 use Rattle.std.specs.Prelude.{ℕ, Option, None, Some, List, [], ◌∷◌, ◌++◌}
 use Rattle.ba_core.specs.declared.protocols.Protocol.TheVariants.{Pc}
-use Rattle.ba_events.specs.Events.{NumberedEvent}
-use Rattle.ba_forms.specs.declared.readings.Form.{Form}
-use Rattle.ba_forms.specs.declared.readings.Form.TheVariants as form
-use Rattle.ba_forms.specs.declared.readings.Reading.{Reading}
-use Rattle.ba_forms.specs.declared.readings.Reading.TheVariants as reading
+use Rattle.ba_world_events.specs.Events.{NumberedEvent}
+use Rattle.ba_script_forms.specs.declared.readings.Form.{Form}
+use Rattle.ba_script_forms.specs.declared.readings.Form.TheVariants as form
+use Rattle.ba_script_forms.specs.declared.readings.Reading.{Reading}
+use Rattle.ba_script_forms.specs.declared.readings.Reading.TheVariants as reading
 use Rattle.ba_pair.specs.PairPlay.{Numbered}
 use Rattle.ba_script.specs.declared.scripts.Script.{Script}
 use Rattle.ba_script.specs.declared.scripts.Script.TheVariants.{Pair, World}

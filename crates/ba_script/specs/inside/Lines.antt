@@ -4,7 +4,7 @@ use Rattle.std.specs.Prelude.{Some, Result, MatchResult}
 use Rattle.std.specs.Io.KnownBytes.{Consumes, IsAtEnd, Keeps}
 use Rattle.ba_ports.specs.Lines.{lines_of}
 use Rattle.ba_script.specs.declared.lines.TheConstants.{BLOCK}
-use Rattle.ba_forms.specs.declared.readings.TheConstants.{MOST_BYTES}
+use Rattle.ba_script_forms.specs.declared.readings.TheConstants.{MOST_BYTES}
 use Rattle.ba_script.specs.Scripts.{lookahead}
 
 -- no line feed is among the bytes

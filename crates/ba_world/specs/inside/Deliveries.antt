@@ -1,8 +1,8 @@
 -- Inside: where a message of a world goes, whose nodes have the bases of their numbers.
 use Rattle.std.specs.Prelude.{◌≡◌, ℕ}
-use Rattle.ba_play.specs.Arrivals.{arrival}
-use Rattle.ba_play.specs.Plays.{node_base}
-use Rattle.ba_runs.specs.World.{Mail, Net, node_at}
+use Rattle.ba_world_play.specs.Arrivals.{arrival}
+use Rattle.ba_world_play.specs.Plays.{node_base}
+use Rattle.ba_world_runs.specs.World.{Mail, Net, node_at}
 use Rattle.ba_world.specs.declared.messages.Delivery.{Delivery}
 use Rattle.ba_world.specs.inside.Stages.{number_answered}
 

@@ -1,15 +1,15 @@
 -- Inside: what a reply shows, given what the node makes next.
 use Rattle.std.specs.Prelude.{Bool, true, false, Some}
-use Rattle.ba_events.specs.declared.outcomes.Outcome.{Outcome}
-use Rattle.ba_events.specs.declared.outcomes.Outcome.TheVariants as outcome
-use Rattle.ba_places.specs.declared.calls.Answer.{Answer}
-use Rattle.ba_places.specs.declared.calls.Answer.TheVariants as answer
-use Rattle.ba_play.specs.Outcomes.{refused_outcome}
-use Rattle.ba_steps.specs.Node.{NodeState, next_id}
-use Rattle.ba_steps.specs.declared.answers.Reply.{Reply}
-use Rattle.ba_steps.specs.declared.answers.Reply.TheVariants as reply
-use Rattle.ba_steps.specs.declared.inputs.Input.{Input}
-use Rattle.ba_steps.specs.declared.inputs.Input.TheVariants as input
+use Rattle.ba_world_events.specs.declared.outcomes.Outcome.{Outcome}
+use Rattle.ba_world_events.specs.declared.outcomes.Outcome.TheVariants as outcome
+use Rattle.ba_world_places.specs.declared.calls.Answer.{Answer}
+use Rattle.ba_world_places.specs.declared.calls.Answer.TheVariants as answer
+use Rattle.ba_world_play.specs.Outcomes.{refused_outcome}
+use Rattle.ba_node_steps.specs.Node.{NodeState, next_id}
+use Rattle.ba_node_steps.specs.declared.answers.Reply.{Reply}
+use Rattle.ba_node_steps.specs.declared.answers.Reply.TheVariants as reply
+use Rattle.ba_node_steps.specs.declared.inputs.Input.{Input}
+use Rattle.ba_node_steps.specs.declared.inputs.Input.TheVariants as input
 use Rattle.ba_world.specs.declared.outcomes.Makes.{Makes}
 use Rattle.ba_world.specs.declared.outcomes.Makes.TheVariants as makes
 

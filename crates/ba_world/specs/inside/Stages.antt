@@ -5,34 +5,34 @@ use Rattle.ba_arrivals.specs.declared.mails.Mail.TheVariants as mail
 use Rattle.ba_core.specs.Numbers.{node_of}
 use Rattle.ba_core.specs.declared.identifiers.Id.{Id}
 use Rattle.ba_core.specs.declared.protocols.Kind.{Kind}
-use Rattle.ba_events.specs.declared.outcomes.Outcome.{Outcome}
-use Rattle.ba_events.specs.declared.outcomes.Outcome.TheVariants as outcome
+use Rattle.ba_world_events.specs.declared.outcomes.Outcome.{Outcome}
+use Rattle.ba_world_events.specs.declared.outcomes.Outcome.TheVariants as outcome
 use Rattle.ba_message.specs.declared.messages.Context.{Context}
 use Rattle.ba_message.specs.declared.messages.Letter.{Letter}
 use Rattle.ba_message.specs.declared.messages.Message.{Message}
 use Rattle.ba_message.specs.declared.messages.Message.TheVariants as message
-use Rattle.ba_places.specs.Calls.{IsCallAnswer}
-use Rattle.ba_places.specs.Places.{Matches}
-use Rattle.ba_places.specs.declared.calls.Answer.{Answer}
-use Rattle.ba_places.specs.declared.places.Place.{Place}
-use Rattle.ba_play.specs.Arrivals.{arrival}
-use Rattle.ba_play.specs.Nodes.{NodeCall, node_call}
-use Rattle.ba_play.specs.Outcomes.{label_of}
-use Rattle.ba_play.specs.Plays.{EventEffect, WorldOnDisks, arming_effect, context_handed, crash_effect, disk_at_start, has_node}
-use Rattle.ba_play.specs.Plays.{if_has_node, lost_effect, mail_at, moment, node_base, occasion_effect, open_effect, scope_named}
-use Rattle.ba_play.specs.Plays.{wait_effect, with_node}
-use Rattle.ba_play.specs.declared.missing.Missing.{Missing}
-use Rattle.ba_play.specs.declared.missing.Missing.TheVariants as missing
+use Rattle.ba_world_places.specs.Calls.{IsCallAnswer}
+use Rattle.ba_world_places.specs.Places.{Matches}
+use Rattle.ba_world_places.specs.declared.calls.Answer.{Answer}
+use Rattle.ba_world_places.specs.declared.places.Place.{Place}
+use Rattle.ba_world_play.specs.Arrivals.{arrival}
+use Rattle.ba_world_play.specs.Nodes.{NodeCall, node_call}
+use Rattle.ba_world_play.specs.Outcomes.{label_of}
+use Rattle.ba_world_play.specs.Plays.{EventEffect, WorldOnDisks, arming_effect, context_handed, crash_effect, disk_at_start, has_node}
+use Rattle.ba_world_play.specs.Plays.{if_has_node, lost_effect, mail_at, moment, node_base, occasion_effect, open_effect, scope_named}
+use Rattle.ba_world_play.specs.Plays.{wait_effect, with_node}
+use Rattle.ba_world_play.specs.declared.missing.Missing.{Missing}
+use Rattle.ba_world_play.specs.declared.missing.Missing.TheVariants as missing
 use Rattle.ba_ports.specs.Disk.{Armament}
-use Rattle.ba_runs.specs.Runs.{node_at_start}
-use Rattle.ba_runs.specs.World as runs
-use Rattle.ba_runs.specs.World.{Occasion, is_up, net_of, ticks}
+use Rattle.ba_world_runs.specs.Runs.{node_at_start}
+use Rattle.ba_world_runs.specs.World as runs
+use Rattle.ba_world_runs.specs.World.{Occasion, is_up, net_of, ticks}
 use Rattle.ba_scope.specs.Scope.{ScopeState}
-use Rattle.ba_steps.specs.Steps.{node_step}
-use Rattle.ba_steps.specs.Ticks.{tick_step}
-use Rattle.ba_steps.specs.declared.answers.Reply.{Reply}
-use Rattle.ba_steps.specs.declared.answers.Reply.TheVariants as reply
-use Rattle.ba_steps.specs.declared.inputs.Input.{Input}
+use Rattle.ba_node_steps.specs.Steps.{node_step}
+use Rattle.ba_node_steps.specs.Ticks.{tick_step}
+use Rattle.ba_node_steps.specs.declared.answers.Reply.{Reply}
+use Rattle.ba_node_steps.specs.declared.answers.Reply.TheVariants as reply
+use Rattle.ba_node_steps.specs.declared.inputs.Input.{Input}
 use Rattle.ba_world.specs.Worlds.{IsSetAs, IsStageOf, StageValue}
 use Rattle.ba_world.specs.declared.faults.StepFault.{StepFault}
 use Rattle.ba_world.specs.declared.faults.StepFault.TheVariants as fault

@@ -1,8 +1,8 @@
 use Rattle.std.proofs.Common.{IsTrue, subst, sym}
-use Rattle.ba_post.proofs.EncodedLetters.{letter_can_be_encoded}
+use Rattle.ba_wire_limits.proofs.EncodedLetters.{letter_can_be_encoded}
 use Rattle.ba_wire.specs.Envelopes.{CanEncode, is_numbered}
 use Rattle.ba_wire.specs.declared.routes.Route.{Route}
-use Rattle.ba_canonical.proofs.PostedMessages.{letter_numbered, postable_times}
+use Rattle.ba_wire_short.proofs.PostedMessages.{letter_numbered, postable_times}
 use Rattle.ba_arrivals.proofs.mails.posted.Goals as goal
 
 pub through_text-requires-clause-encodes : goal.through_text-requires-clause-encodes

@@ -1,4 +1,4 @@
-use Rattle.ba_canonical.proofs.PostedMessages.{answer_encodes, answer_route, reply_numbered, reply_times}
+use Rattle.ba_wire_short.proofs.PostedMessages.{answer_encodes, answer_route, reply_numbered, reply_times}
 use Rattle.ba_arrivals.proofs.mails.posted_answer.Goals as goal
 
 pub through_text-requires-clause-encodes : goal.through_text-requires-clause-encodes

@@ -2,7 +2,7 @@ use Rattle.std.proofs.Common.{◌≡◌, ◌≢◌, [], List, IfErr, IfOk, ◌<�
 use Rattle.ba_node.specs.Loading.{RefusesLoad, begun}
 use Rattle.ba_node.specs.inside.Beginnings.{Begins, IsReplay}
 use Rattle.ba_node.proofs.Beginnings.{at_ok, begins_again, begun_same, few_of, holds_again}
-use Rattle.ba_objects.specs.Objects.{NodeInMemory}
+use Rattle.ba_node_objects.specs.Objects.{NodeInMemory}
 use Rattle.ba_record.specs.declared.records.Record.{Record}
 use Rattle.ba_node.proofs.beginning.begin.Goals as goal
 

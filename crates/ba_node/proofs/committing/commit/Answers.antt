@@ -2,9 +2,9 @@ use Rattle.std.proofs.Common.{Ok, IsTrue, sym, subst}
 use Rattle.ba_node.specs.Nodes.{NodeHolds, on_journal}
 use Rattle.ba_node.specs.inside.Commits.{Commits}
 use Rattle.ba_node.proofs.Commits.{commits_done, commits_refused, due_fits, due_in_range, holds_after, holds_refused}
-use Rattle.ba_objects.specs.Changes.{changed_node}
-use Rattle.ba_steps.specs.Lawful.{Change}
-use Rattle.ba_steps.specs.Node.{NodeState}
+use Rattle.ba_node_objects.specs.Changes.{changed_node}
+use Rattle.ba_node_steps.specs.Lawful.{Change}
+use Rattle.ba_node_steps.specs.Node.{NodeState}
 use Rattle.ba_node.proofs.committing.commit.Goals as goal
 
 pub keep_some-requires-clause-in_range : goal.keep_some-requires-clause-in_range

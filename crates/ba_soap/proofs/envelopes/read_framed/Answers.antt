@@ -1,5 +1,5 @@
 use Rattle.std.proofs.Common.{map, ap, ◌∙◌}
-use Rattle.ba_shape.specs.Elements.{children}
+use Rattle.ba_soap_shapes.specs.Elements.{children}
 use Rattle.ba_soap.proofs.BlockLaws.{same_blocks}
 use Rattle.ba_soap.proofs.envelopes.read_framed.Goals as goal
 

@@ -1,5 +1,5 @@
 use Rattle.std.proofs.Common.{◌≡◌, ◌++◌, drop, map}
-use Rattle.ba_shape.specs.Elements.{children}
+use Rattle.ba_soap_shapes.specs.Elements.{children}
 use Rattle.ba_soap.proofs.headers.children.Given as goal
 
 abbrev pub invariant-loop-part : goal.invariant-loop-part

@@ -1,5 +1,5 @@
 use Rattle.std.proofs.Common.{◌≡◌, ◌++◌, drop, map, filter}
-use Rattle.ba_shape.specs.Endpoints.{unmarked_tree}
+use Rattle.ba_soap_shapes.specs.Endpoints.{unmarked_tree}
 use Rattle.ba_soap.specs.Envelopes.{is_parameter}
 use Rattle.ba_soap.proofs.headers.parameters.Given as goal
 

@@ -1,5 +1,5 @@
 use Rattle.std.proofs.Common.{◌≡◌, ◌∙◌, sym}
-use Rattle.ba_play.specs.Arrivals.{identifier_in}
+use Rattle.ba_world_play.specs.Arrivals.{identifier_in}
 use Rattle.ba_world.proofs.MessageLemmas.{letter_delivers}
 use Rattle.ba_world.proofs.messages.letter_delivery.Goals as goal
 

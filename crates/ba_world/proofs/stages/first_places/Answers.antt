@@ -1,5 +1,5 @@
 use Rattle.std.proofs.Common.{rules, ◌≡◌, ℕ, ◌+◌, [], ◌∷◌, ◌++◌, List, sym, subst, arith}
-use Rattle.ba_places.specs.declared.places.Place.{Place}
+use Rattle.ba_world_places.specs.declared.places.Place.{Place}
 use Rattle.ba_world.proofs.StageAnswers.{no_places, one_more}
 use Rattle.ba_world.specs.inside.Stages.{ArePlacesAtStart}
 use Rattle.ba_world.proofs.stages.first_places.Goals as goal

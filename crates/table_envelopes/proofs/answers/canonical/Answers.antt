@@ -1,4 +1,4 @@
-use Rattle.ba_post.proofs.ReadMessages.{decoded_has_envelope}
+use Rattle.ba_wire_limits.proofs.ReadMessages.{decoded_has_envelope}
 use Rattle.table_envelopes.proofs.answers.canonical.Goals as goal
 
 pub put_canonical-requires : goal.put_canonical-requires

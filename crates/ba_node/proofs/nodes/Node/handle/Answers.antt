@@ -1,10 +1,10 @@
 use Rattle.std.proofs.Common.{sym, ap, subst}
 use Rattle.ba_node.specs.Nodes.{on_journal}
-use Rattle.ba_plans.specs.Plans.{planned_step}
+use Rattle.ba_node_plans.specs.Plans.{planned_step}
 use Rattle.ba_node.specs.inside.Commits.{Commits, IsDue, due_by_step}
-use Rattle.ba_steps.specs.Lawful.{change, given}
-use Rattle.ba_steps.specs.Node.{NodeState}
-use Rattle.ba_steps.specs.Steps.{NodeStep}
+use Rattle.ba_node_steps.specs.Lawful.{change, given}
+use Rattle.ba_node_steps.specs.Node.{NodeState}
+use Rattle.ba_node_steps.specs.Steps.{NodeStep}
 use Rattle.ba_node.proofs.nodes.Node.handle.Goals as goal
 use Rattle.ba_node.proofs.nodes.Node.handle.Goals.{After-take_step}
 use Rattle.ba_node.proofs.nodes.Node.handle.Given.{Over}

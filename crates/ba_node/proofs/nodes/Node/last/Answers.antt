@@ -1,7 +1,7 @@
 use Rattle.std.proofs.Common.{subst}
 use Rattle.ba_node.specs.Nodes.{on_journal}
 use Rattle.ba_node.proofs.Commits.{spare_of}
-use Rattle.ba_steps.specs.Fits.{HasSpareCounters, NodeFits}
+use Rattle.ba_node_steps.specs.Fits.{HasSpareCounters, NodeFits}
 use Rattle.ba_node.proofs.nodes.Node.last.Goals as goal
 
 pub returns-clause-spare : goal.returns-clause-spare

@@ -10,10 +10,10 @@ use Rattle.ba_node.specs.Nodes.{NodeOnJournal}
 use Rattle.ba_node.specs.declared.faults.LoadFault.{LoadFault}
 use Rattle.ba_node.specs.Loading.{MayBeginSince, Opened, RefusesFile, begun}
 use Rattle.ba_node.proofs.Beginnings.{begun_in_range}
-use Rattle.ba_steps.specs.Lawful.{Replays}
-use Rattle.ba_steps.specs.Node.{NodeState}
+use Rattle.ba_node_steps.specs.Lawful.{Replays}
+use Rattle.ba_node_steps.specs.Node.{NodeState}
 use Rattle.ba_node.proofs.Openings.{unread, since_alike, unread_calls, since_begun, begun_calls, refused_calls, refused_all}
-use Rattle.ba_objects.specs.Objects.{NodeInMemory}
+use Rattle.ba_node_objects.specs.Objects.{NodeInMemory}
 use Rattle.ba_node.proofs.nodes.Node.load.Goals as goal
 use Rattle.ba_node.proofs.nodes.Node.load.Goals.{After-begin}
 use Rattle.ba_node.proofs.nodes.Node.load.Given.{Over}

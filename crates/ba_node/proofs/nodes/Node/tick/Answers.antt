@@ -3,15 +3,15 @@ use Rattle.ba_journal.specs.Journals.{IsSettled}
 use Rattle.ba_message.specs.Letters.{IsPostable}
 use Rattle.ba_node.specs.Keeping.{StandsWith}
 use Rattle.ba_node.specs.Posting.{LeavesRoom}
-use Rattle.ba_plans.specs.Plans.{planned_tick}
+use Rattle.ba_node_plans.specs.Plans.{planned_tick}
 use Rattle.ba_node.specs.inside.Commits.{due_by_tick}
 use Rattle.ba_node.proofs.Posting.{postable}
 use Rattle.ba_node.proofs.Sendable.{sendable}
 use Rattle.ba_ports.specs.Disk.{LeavesOnly}
 use Rattle.ba_record.specs.declared.records.Record.{Record}
-use Rattle.ba_steps.specs.Lawful.{ticked}
-use Rattle.ba_steps.specs.Letters.{IsLetterOf}
-use Rattle.ba_steps.specs.Ticks.{TickStep, tick_step}
+use Rattle.ba_node_steps.specs.Lawful.{ticked}
+use Rattle.ba_node_steps.specs.Letters.{IsLetterOf}
+use Rattle.ba_node_steps.specs.Ticks.{TickStep, tick_step}
 use Rattle.ba_node.proofs.nodes.Node.tick.Goals as goal
 
 pub take_tick-requires-clause-due : goal.take_tick-requires-clause-due

@@ -2,7 +2,7 @@ use Rattle.std.proofs.Common.{◌≡◌, ◌<◌, None, length, refl, sym, subst
 use Rattle.std.proofs.lemmas.Option.{slice_get_read}
 use Rattle.ba_scope.specs.Fits.{ScopeFits}
 use Rattle.ba_scope.specs.Rules.{with_end_changed}
-use Rattle.ba_ends.specs.Ends.{completing_end, end_with_id}
+use Rattle.ba_scope_ends.specs.Ends.{completing_end, end_with_id}
 use Rattle.ba_scope.specs.Scope.{ScopeState}
 use Rattle.ba_scope.specs.contracts.fields.Fields.{the_view}
 use Rattle.ba_scope.proofs.Changes.{StandsAt, changed_there, with_end_at}

@@ -2,7 +2,7 @@ use Rattle.std.proofs.Common.{◌≡◌, ◌<◌, length, refl, sym, subst, slic
 use Rattle.std.proofs.lemmas.Option.{slice_get_read}
 use Rattle.ba_scope.specs.Fits.{ScopeFits}
 use Rattle.ba_scope.specs.Rules.{end_receive}
-use Rattle.ba_ends.specs.Ends.{end_with_id}
+use Rattle.ba_scope_ends.specs.Ends.{end_with_id}
 use Rattle.ba_scope.specs.Scope.{ScopeState}
 use Rattle.ba_scope.specs.contracts.fields.Fields.{the_view}
 use Rattle.ba_scope.proofs.Changes.{StandsAt, with_end_at, received_at}

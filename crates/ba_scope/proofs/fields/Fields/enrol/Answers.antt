@@ -1,10 +1,10 @@
 use Rattle.std.proofs.Common.{◌≡◌, ◌+◌, ◌<◌, ◌≤◌, ◌∷◌, ◌++◌, List, [], Result, length, is_ok, IsOk, arith, sym, ap, ◌∙◌, subst}
 use Rattle.std.proofs.Common.{vec_capacity, vec_len, if◌then◌else◌}
-use Rattle.ba_ends.specs.Ends.{new_end}
+use Rattle.ba_scope_ends.specs.Ends.{new_end}
 use Rattle.ba_scope.specs.Rules.{scope_with_end}
 use Rattle.ba_scope.specs.Scope.{ScopeState}
 use Rattle.ba_scope.specs.contracts.fields.Fields.{the_view}
-use Rattle.ba_ends.specs.declared.ends.End.{End}
+use Rattle.ba_scope_ends.specs.declared.ends.End.{End}
 use Rattle.ba_scope.proofs.fields.Fields.enrol.Goals as goal
 
 if_ok : {A E X : Type 0} (r : Result A E) (x y : X) → IsOk r → (if is_ok r then x else y) ≡ x

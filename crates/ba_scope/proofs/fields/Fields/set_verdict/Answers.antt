@@ -1,6 +1,6 @@
 use Rattle.std.proofs.Common.{sym, subst, IsTrue}
 use Rattle.std.specs.List.{AllByRecursion}
-use Rattle.ba_ends.specs.Ends.{has_own_state}
+use Rattle.ba_scope_ends.specs.Ends.{has_own_state}
 use Rattle.ba_scope.specs.Scope.{ScopeState}
 use Rattle.ba_scope.proofs.fields.Fields.set_verdict.Goals as goal
 

@@ -1,6 +1,6 @@
 use Rattle.std.proofs.Common.{subst}
 use Rattle.ba_scope.specs.Fits.{ScopeFits}
-use Rattle.ba_ends.specs.Ends.{Tick}
+use Rattle.ba_scope_ends.specs.Ends.{Tick}
 use Rattle.ba_scope.specs.Scope.{ScopeState}
 use Rattle.ba_scope.proofs.Calls.{tick_end_fits}
 use Rattle.ba_scope.proofs.scopes.Scope.end_tick.Goals as goal

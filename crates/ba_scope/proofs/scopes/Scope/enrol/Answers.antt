@@ -1,7 +1,7 @@
 use Rattle.std.proofs.Common.{◌≡◌, None, true, not, subst, sym}
 use Rattle.ba_scope.specs.Fits.{ScopeFits}
 use Rattle.ba_scope.specs.Rules.{enrol_refusal}
-use Rattle.ba_ends.specs.Ends.{end_of}
+use Rattle.ba_scope_ends.specs.Ends.{end_of}
 use Rattle.ba_scope.specs.Scope.{ScopeState, has_id}
 use Rattle.ba_scope.proofs.Calls.{enrol_fits}
 use Rattle.ba_scope.proofs.scopes.Scope.enrol.Goals as goal

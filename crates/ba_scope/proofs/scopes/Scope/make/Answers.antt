@@ -1,6 +1,6 @@
 use Rattle.std.proofs.Common.{◌≡◌, Option, Some, IfSome, IsTrue, true, subst}
-use Rattle.ba_ends.specs.Parts.{is_registering}
-use Rattle.ba_ends.specs.declared.parts.Part.{Part}
+use Rattle.ba_scope_ends.specs.Parts.{is_registering}
+use Rattle.ba_scope_ends.specs.declared.parts.Part.{Part}
 use Rattle.ba_scope.proofs.Calls.{new_scope_fits}
 use Rattle.ba_scope.proofs.scopes.Scope.make.Goals as goal
 

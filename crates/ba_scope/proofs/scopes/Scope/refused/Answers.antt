@@ -1,6 +1,6 @@
 use Rattle.std.proofs.Common.{IsTrue, subst, sym}
 use Rattle.ba_scope.specs.Fits.{ScopeFits}
-use Rattle.ba_ends.specs.Parts.{is_registering}
+use Rattle.ba_scope_ends.specs.Parts.{is_registering}
 use Rattle.ba_scope.specs.Scope.{ScopeState}
 use Rattle.ba_scope.proofs.Calls.{refused_fits}
 use Rattle.ba_scope.proofs.scopes.Scope.refused.Goals as goal

@@ -1,5 +1,5 @@
 use Rattle.std.proofs.Common.{◌≡◌, Err, rules}
-use Rattle.ba_play.specs.Nodes.{armed_with}
+use Rattle.ba_world_play.specs.Nodes.{armed_with}
 use Rattle.ba_ports.specs.Disk.{fail}
 use Rattle.ba_world.proofs.EventLemmas.{changed_plays, exit_there}
 use Rattle.ba_world.proofs.PlaceLemmas.{can_be_put}

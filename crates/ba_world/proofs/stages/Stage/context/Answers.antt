@@ -1,6 +1,6 @@
 use Rattle.std.proofs.Common.{◌≡◌}
 use Rattle.ba_core.specs.Numbers.{node_of}
-use Rattle.ba_play.specs.Plays.{node_base}
+use Rattle.ba_world_play.specs.Plays.{node_base}
 use Rattle.ba_world.proofs.MessageLemmas.{own_registration_fits}
 use Rattle.ba_world.proofs.stages.Stage.context.Goals as goal
 

@@ -1,7 +1,7 @@
 use Rattle.std.proofs.Common.{◌≡◌, [], ◌∷◌, ◌++◌, List, length, map, sym, ap, ◌∙◌, append_assoc, append-nil, arith}
 use Rattle.std.specs.Vec.Iter.{into_iter_items}
-use Rattle.ba_memory.specs.DiskValue.{DiskValue}
-use Rattle.ba_places.specs.Places.{disk_at}
+use Rattle.ba_ports_memory.specs.DiskValue.{DiskValue}
+use Rattle.ba_world_places.specs.Places.{disk_at}
 use Rattle.ba_world.proofs.StageAnswers.{disks_of, map_last, nothing_left, pushed}
 use Rattle.ba_world.specs.Worlds.{StageValue}
 use Rattle.ba_world.proofs.stages.Stage.into_disks.Goals as goal

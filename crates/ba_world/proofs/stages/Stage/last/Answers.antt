@@ -1,7 +1,7 @@
 use Rattle.std.proofs.Common.{◌≡◌, None, Some, sym, ap, ◌∙◌, true≢false}
 use Rattle.std.specs.Option.{option_map}
-use Rattle.ba_places.specs.declared.places.Place.TheVariants as place
-use Rattle.ba_steps.specs.Node.{last}
+use Rattle.ba_world_places.specs.declared.places.Place.TheVariants as place
+use Rattle.ba_node_steps.specs.Node.{last}
 use Rattle.ba_world.proofs.PlaceLemmas.{down_there, matches_there, nowhere_up}
 use Rattle.ba_world.specs.inside.Stages.{place_at}
 use Rattle.ba_world.proofs.stages.Stage.last.Goals as goal

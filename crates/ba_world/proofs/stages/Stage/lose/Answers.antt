@@ -1,5 +1,5 @@
 use Rattle.std.proofs.Common.{◌≡◌, Err, rules}
-use Rattle.ba_play.specs.Nodes.{lost_call}
+use Rattle.ba_world_play.specs.Nodes.{lost_call}
 use Rattle.ba_world.proofs.EventLemmas.{call_plays, exit_there}
 use Rattle.ba_world.proofs.PlaceLemmas.{can_be_put}
 use Rattle.ba_world.proofs.stages.Stage.lose.Goals as goal

@@ -1,7 +1,7 @@
 use Rattle.std.proofs.Common.{◌≡◌, Ok, Err, refl, sym, subst, rules}
-use Rattle.ba_events.specs.declared.outcomes.Outcome.{Outcome}
-use Rattle.ba_play.specs.Plays.{moment, own_at}
-use Rattle.ba_runs.specs.World.{own}
+use Rattle.ba_world_events.specs.declared.outcomes.Outcome.{Outcome}
+use Rattle.ba_world_play.specs.Plays.{moment, own_at}
+use Rattle.ba_world_runs.specs.World.{own}
 use Rattle.ba_world.proofs.EventLemmas.{exit_called, own_plays}
 use Rattle.ba_world.specs.inside.Stages.{StageIsPlayedAs}
 use Rattle.ba_world.proofs.stages.Stage.own.Goals as goal

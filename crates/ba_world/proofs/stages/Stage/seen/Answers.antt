@@ -1,7 +1,7 @@
 use Rattle.std.proofs.Common.{◌≡◌, None, Some, sym, ap, ◌∙◌}
 use Rattle.std.specs.Option.{option_map}
 use Rattle.ba_core.specs.Numbers.{node_of}
-use Rattle.ba_places.specs.declared.places.Place.TheVariants as place
+use Rattle.ba_world_places.specs.declared.places.Place.TheVariants as place
 use Rattle.ba_world.proofs.PlaceLemmas.{down_there, nowhere_up, seen_there, unseen}
 use Rattle.ba_world.specs.inside.Stages.{place_at}
 use Rattle.ba_world.proofs.stages.Stage.seen.Goals as goal

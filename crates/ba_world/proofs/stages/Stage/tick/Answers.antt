@@ -1,12 +1,12 @@
 use Rattle.std.proofs.Common.{◌≡◌, ℕ, Ok, Some, sym, subst}
 use Rattle.ba_core.specs.Numbers.{node_of}
-use Rattle.ba_events.specs.declared.outcomes.Label.{Label}
-use Rattle.ba_events.specs.declared.outcomes.Outcome.TheVariants as outcome
+use Rattle.ba_world_events.specs.declared.outcomes.Label.{Label}
+use Rattle.ba_world_events.specs.declared.outcomes.Outcome.TheVariants as outcome
 use Rattle.ba_message.specs.declared.messages.Letter.{Letter}
-use Rattle.ba_places.specs.declared.calls.Answer.{Answer}
-use Rattle.ba_places.specs.declared.calls.Answer.TheVariants as answer
-use Rattle.ba_play.specs.Plays.{moment}
-use Rattle.ba_runs.specs.World.{ticks}
+use Rattle.ba_world_places.specs.declared.calls.Answer.{Answer}
+use Rattle.ba_world_places.specs.declared.calls.Answer.TheVariants as answer
+use Rattle.ba_world_play.specs.Plays.{moment}
+use Rattle.ba_world_runs.specs.World.{ticks}
 use Rattle.ba_world.proofs.EventLemmas.{tick_sent}
 use Rattle.ba_world.specs.inside.Stages.{IsCalled, IsLetterAt, StageIsPlayedAs, node_call_at, tick_at}
 use Rattle.std.specs.Prelude.{Option}

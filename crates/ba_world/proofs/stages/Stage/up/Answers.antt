@@ -1,6 +1,6 @@
 use Rattle.std.proofs.Common.{◌≡◌, None, Some, sym, ap, ◌∙◌}
 use Rattle.std.specs.Option.{option_map}
-use Rattle.ba_places.specs.declared.places.Place.TheVariants as place
+use Rattle.ba_world_places.specs.declared.places.Place.TheVariants as place
 use Rattle.ba_world.proofs.PlaceLemmas.{down_there, nowhere_up, up_there}
 use Rattle.ba_world.specs.inside.Stages.{place_at}
 use Rattle.ba_world.proofs.stages.Stage.up.Goals as goal

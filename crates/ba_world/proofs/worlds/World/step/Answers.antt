@@ -1,5 +1,5 @@
 use Rattle.std.proofs.Common.{◌≡◌, Bool, false, sym, ap, ◌∙◌, subst}
-use Rattle.ba_play.specs.Plays.{WorldOnDisks, play_step}
+use Rattle.ba_world_play.specs.Plays.{WorldOnDisks, play_step}
 use Rattle.ba_world.proofs.StepLemmas.{world_goes_on, world_plays}
 use Rattle.ba_world.specs.Worlds.{IsPlayedAs, IsStageOf, StageValue, WorldValue}
 use Rattle.ba_world.proofs.worlds.World.step.Goals as goal

@@ -1,8 +1,0 @@
-use Rattle.ba_forms.proofs.Choices.{act_if_some, act_if_none}
-use Rattle.ba_forms.proofs.words.act_in.Goals as goal
-
-pub returns-clause-some : goal.returns-clause-some
-returns-clause-some c = act_if_some c.of_word.result c.args.word.now c.of_word.ensures.some
-
-pub returns-clause-none : goal.returns-clause-none
-returns-clause-none c = act_if_none c.of_word.result c.args.word.now c.of_word.ensures.none

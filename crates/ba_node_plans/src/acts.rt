@@ -1,0 +1,34 @@
+//! The work of a lone participant came to something.
+ghost use Rattle.std.specs.Prelude.{◌≡◌};
+ghost use Rattle.ba_node_objects.specs.Changes.{Suits};
+ghost use Rattle.ba_node_plans.specs.Plans.{planned_step};
+ghost use Rattle.ba_node_steps.specs.Fits.{NodeFits};
+ghost use Rattle.ba_node_steps.specs.Steps.{on_act};
+
+use crate::plans::Plan;
+use ba_core::{Act, Id};
+use ba_node_objects::{Change, Objects, PartChange};
+use ba_node_steps::{CHILD_PART, NO_SUCH_PART, Wake};
+use ba_record::Record;
+use ba_scope::WRONG_STATE;
+
+/// The work of the lone participant with this identifier came to this.
+pub fn act(node: &Objects, id: Id, act: Act) -> Plan
+    ensures step { planned_step node.now.node result ≡ on_act node.now.node id act }
+    ensures suits { Suits node.now result.change }
+{
+    let Some(found) = node.find_lone(id) else {
+        return match node.find_up(id) {
+            None => Plan::refused(NO_SUCH_PART, id),
+            Some(_) => Plan::refused(CHILD_PART, id),
+        };
+    };
+    match ba_tables::p_act(found.part.protocol, found.part.state, act) {
+        None => Plan::refused(WRONG_STATE, id),
+        Some(next) => Plan::kept(
+            Record::Acted(id.counter(), act),
+            Wake::One(id),
+            Change::Part(found.place, PartChange::Move(next)),
+        ),
+    }
+}

@@ -1,0 +1,147 @@
+//! Laws of steps. Each function does nothing: its contract is the law.
+ghost use Rattle.std.specs.Prelude.{◌≡◌, ◌≢◌, ◌↔◌, ◌+◌, ◌*◌, ◌≤◌, ℕ, List, [], ◌∷◌, ◌++◌, length, None, Some, IsTrue, is_some};
+ghost use Rattle.std.specs.List.{AllByRecursion};
+ghost use Rattle.std.specs.Option.{option_map, option_to_list};
+ghost use Rattle.ba_core.specs.declared.codes.Code.TheVariants as code;
+ghost use Rattle.ba_core.specs.declared.identifiers.Id.{Id};
+ghost use Rattle.ba_core.specs.declared.protocols.Kind.TheVariants.{Atomic, Mixed};
+ghost use Rattle.ba_core.specs.declared.protocols.Verdict.TheVariants.{Close, Undo};
+ghost use Rattle.ba_core.specs.declared.states.CState.TheVariants as end;
+ghost use Rattle.ba_core.specs.declared.states.How.TheVariants.{Failed};
+ghost use Rattle.ba_core.specs.declared.states.PState.TheVariants as part;
+ghost use Rattle.ba_message.specs.declared.messages.Letter.{Letter};
+ghost use Rattle.ba_record.specs.Coding.{InRange};
+ghost use Rattle.ba_record.specs.declared.records.Record.{Record};
+ghost use Rattle.ba_scope.specs.declared.answers.TheConstants.{ALREADY_DECIDED, NOT_READY};
+ghost use Rattle.ba_node_steps.specs.Addresses.{HasText, coordinator_of, participant_of, registration_of};
+ghost use Rattle.ba_node_steps.specs.Endpoints.{AllReachable, GivesFit};
+ghost use Rattle.ba_node_steps.specs.Examples.{node_after, after_records, all_written, child_is_made, fails_below, first_base, first_completes, first_node, object, own_choices, register_below, register_of, reply_to, second_exits, second_node, shown_ends, shown_scopes};
+ghost use Rattle.ba_node_steps.specs.Fits.{HasSpareCounters, NodeFits};
+ghost use Rattle.ba_node_steps.specs.Lawful.{AreFew, AreLawful, Event, IsStepOf, Replays, after_record, change, event_of};
+ghost use Rattle.ba_node_steps.specs.Letters.{IsLetterOf};
+ghost use Rattle.ba_node_steps.specs.Node.{NodeState, SameNode, last, new_node};
+ghost use Rattle.ba_node_steps.specs.Ticks.{tick_step};
+ghost use Rattle.ba_node_steps.specs.declared.answers.Reply.TheVariants as reply;
+ghost use Rattle.ba_node_steps.specs.declared.inputs.Input.TheVariants as input;
+
+/// A step that keeps no record leaves the node as it is, and one that leaves it so keeps none.
+pub fn steps_without_a_record_change_nothing()
+    ensures { (n : NodeState) (e : Event) → ((change n e).written ≡ None) ↔ ((change n e).after ≡ n) }
+{}
+
+/// A node fits as it begins, without objects; and one that fits, and has counters left for what a step makes, fits after
+/// each step, which makes at most two objects. It stays the same node.
+pub fn steps_keep_a_node_fit()
+    ensures new { (number : ℕ) (base : List ℕ) → NodeFits (new_node number base) }
+    ensures step { (n : NodeState) (e : Event) → HasSpareCounters n → NodeFits n → NodeFits (change n e).after }
+    ensures few { (n : NodeState) (e : Event) → HasSpareCounters n → NodeFits n → last (change n e).after ≤ last n + 2 }
+    ensures node { (n : NodeState) (e : Event) → SameNode n (change n e).after }
+{}
+
+/// Each endpoint that a node keeps can be written to, where those that it is given fit: it asks itself whether they can be
+/// dialed.
+pub fn steps_keep_endpoints_reachable()
+    ensures new { (number : ℕ) (base : List ℕ) → AllReachable (new_node number base) }
+    ensures step { (n : NodeState) (e : Event) → GivesFit e → AllReachable n → AllReachable (change n e).after }
+{}
+
+/// The letter of a tick goes to an endpoint that can be written to, is a notice or the Register of the participant that
+/// sends it, and tells its sender by its number.
+pub fn letters_tell_their_senders()
+    ensures { (n : NodeState) (now : ℕ) (id : Id) (l : Letter) → AllReachable n
+        → (tick_step n now id).letter ≡ Some l → IsLetterOf n id l }
+{}
+
+/// What a step writes down is in the ranges of records, where the endpoints that it is given fit.
+pub fn what_is_written_is_in_range()
+    ensures { (n : NodeState) (e : Event) (r : Record) → HasSpareCounters n → NodeFits n → GivesFit e
+        → (change n e).written ≡ Some r → InRange r }
+{}
+
+/// At a node that fits a record tells its step: what happened, enacted again, leads to a node exactly where some step that
+/// keeps the record leads to it.
+pub fn a_record_tells_its_step()
+    ensures step { (n : NodeState) (r : Record) (after : NodeState) → NodeFits n → InRange r
+        → after_record n r ≡ Some after → IsStepOf n r after }
+    ensures told { (n : NodeState) (r : Record) (after : NodeState) → NodeFits n
+        → IsStepOf n r after → after_record n r ≡ Some after }
+{}
+
+/// A node that is the replay of its records stays so with what a step keeps.
+pub fn replays_go_on()
+    ensures { (records : List Record) (n : NodeState) (e : Event) → Replays records n
+        → Replays (records ++ option_to_list (change n e).written) (change n e).after }
+{}
+
+/// A lawful list of records that are in their ranges, and few enough, has one replay, which fits; and it goes on to be lawful
+/// with exactly the records that `after_record` takes.
+pub fn a_lawful_list_has_one_replay()
+    ensures fits { (records : List Record) (n : NodeState) → AllByRecursion InRange records → AreFew records
+        → Replays records n → NodeFits n }
+    ensures one { (records : List Record) (n m : NodeState) → AllByRecursion InRange records → AreFew records
+        → Replays records n → Replays records m → n ≡ m }
+    ensures goes_on { (records : List Record) (n : NodeState) (r : Record) → AllByRecursion InRange records → AreFew records
+        → Replays records n → InRange r → IsTrue (is_some (after_record n r)) ↔ AreLawful (records ++ r ∷ []) }
+{}
+
+/// An address tells the object that is found there, whatever the bases of two nodes, and an end's address is no participant's.
+pub fn addresses_tell_objects_apart()
+    ensures scopes { (base other : List ℕ) (a b : Id) → HasText a → HasText b
+        → registration_of base a ≡ registration_of other b → a ≡ b }
+    ensures ends { (base other : List ℕ) (a b : Id) → HasText a → HasText b
+        → coordinator_of base a ≡ coordinator_of other b → a ≡ b }
+    ensures participants { (base other : List ℕ) (a b : Id) → HasText a → HasText b
+        → participant_of base a ≡ participant_of other b → a ≡ b }
+    ensures sides { (base other : List ℕ) (a b : Id) → coordinator_of base a ≢ participant_of other b }
+{}
+
+/// An AtomicOutcome root with two participants, of which the first completed, isn't closed before the second exited.
+pub fn one_exits_one_closes()
+    ensures not_yet { reply_to (node_after first_node (first_completes Atomic)) (input.Decide (object 1 1) Close)
+        ≡ reply.Refused NOT_READY (object 1 3) }
+    ensures closes { shown_ends (node_after first_node (first_completes Atomic ++ second_exits))
+        ≡ (((object 1 2).0, end.Closing, Some Close) ∷ ((object 1 3).0, end.Exiting, Some Close) ∷ []) ∷ [] }
+{}
+
+/// After the verdict a participant that was enrolled before has the same end, and another one is refused for good.
+pub fn late_register_is_refused()
+    ensures again { reply_to (node_after first_node (first_completes Atomic ++ second_exits)) (register_of 1)
+        ≡ reply.Enrolment (coordinator_of first_base (object 1 2)) }
+    ensures late { reply_to (node_after first_node (first_completes Atomic ++ second_exits)) (register_of 3)
+        ≡ reply.SoapFault code.CannotRegisterParticipant }
+{}
+
+/// Each end of a MixedOutcome root has a verdict of its own, once.
+pub fn each_end_its_own_choice()
+    ensures chosen { shown_ends (node_after first_node (first_completes Mixed ++ own_choices))
+        ≡ (((object 1 2).0, end.Closing, Some Close) ∷ ((object 1 3).0, end.Canceling, Some Undo) ∷ []) ∷ [] }
+    ensures once { reply_to (node_after first_node (first_completes Mixed ++ own_choices)) (input.Choose (object 1 3) Close)
+        ≡ reply.Refused ALREADY_DECIDED (object 1 3) }
+{}
+
+/// A child that is told to compensate fails above where its end failed; before it is enrolled it enrols nobody. Its ten
+/// records lead to what it shows.
+pub fn fail_climbs_a_tree()
+    ensures not_yet { reply_to (node_after second_node (child_is_made ∷ [])) register_below ≡ reply.SoapFault code.EndpointUnavailable }
+    ensures below { shown_ends (node_after second_node fails_below) ≡ (((object 2 3).0, end.Ended Failed, Some Undo) ∷ []) ∷ [] }
+    ensures above { shown_scopes (node_after second_node fails_below) ≡ (Some Undo, part.FailingCompensating ∷ []) ∷ [] }
+    ensures records { length (all_written second_node fails_below) ≡ 10 }
+    ensures below_again { option_map shown_ends (after_records (Some second_node) (all_written second_node fails_below))
+        ≡ Some ((((object 2 3).0, end.Ended Failed, Some Undo) ∷ []) ∷ []) }
+    ensures above_again { option_map shown_scopes (after_records (Some second_node) (all_written second_node fails_below))
+        ≡ Some ((Some Undo, part.FailingCompensating ∷ []) ∷ []) }
+{}
+
+/// What a record in its ranges gives when its step is enacted again fits, so that the node after it keeps no endpoint that
+/// can't be written to.
+pub fn a_record_gives_what_fits()
+    ensures fits { (n : NodeState) (r : Record) (e : Event) → InRange r → event_of n r ≡ Some e → GivesFit e }
+    ensures reachable { (n : NodeState) (r : Record) (after : NodeState) → InRange r → AllReachable n
+        → after_record n r ≡ Some after → AllReachable after }
+{}
+
+/// A replay has at most two objects for each of its records.
+pub fn a_replay_has_few_objects()
+    ensures { (records : List Record) (n : NodeState) → AllByRecursion InRange records → AreFew records
+        → Replays records n → last n ≤ 2 * length records }
+{}

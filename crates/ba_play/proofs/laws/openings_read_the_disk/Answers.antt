@@ -1,5 +1,0 @@
-use Rattle.ba_play.proofs.Openings.{opening_reads}
-use Rattle.ba_play.proofs.laws.openings_read_the_disk.Goals as goal
-
-pub returns : goal.returns
-returns c = opening_reads

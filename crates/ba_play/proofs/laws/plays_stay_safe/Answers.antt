@@ -1,5 +1,0 @@
-use Rattle.ba_play.proofs.Stories.{safe_story}
-use Rattle.ba_play.proofs.laws.plays_stay_safe.Goals as goal
-
-pub returns : goal.returns
-returns c = safe_story

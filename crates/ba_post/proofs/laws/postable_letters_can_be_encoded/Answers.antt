@@ -1,5 +1,0 @@
-use Rattle.ba_post.proofs.EncodedLetters.{letter_can_be_encoded}
-use Rattle.ba_post.proofs.laws.postable_letters_can_be_encoded.Goals as goal
-
-pub returns : goal.returns
-returns c = letter_can_be_encoded

@@ -1,6 +1,0 @@
-use Rattle.ba_post.proofs.FitEnvelopes.{keeps_rules}
-use Rattle.ba_post.proofs.ReadMessages.{can_encode, has_envelope}
-use Rattle.ba_post.proofs.laws.what_was_read_can_be_written.Goals as goal
-
-pub returns : goal.returns
-returns c = record { envelope = has_envelope; rules = keeps_rules; encoding = can_encode }

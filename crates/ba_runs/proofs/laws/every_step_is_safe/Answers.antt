@@ -1,5 +1,0 @@
-use Rattle.ba_runs.proofs.SoundRuns.{sound_step}
-use Rattle.ba_runs.proofs.laws.every_step_is_safe.Goals as goal
-
-pub returns : goal.returns
-returns c = sound_step

@@ -1,7 +1,0 @@
--- The copies so far are those of the elements so far.
-use Rattle.std.proofs.Common.{◌≡◌, take, map}
-use Rattle.ba_tree.specs.declared.trees.Content.TheVariants.{Child}
-use Rattle.ba_shape.proofs.endpoints.children.Given as goal
-
-abbrev pub invariant-loop-tree : goal.invariant-loop-tree
-invariant-loop-tree l = l.content ≡ map Child (take l.tree-index l.trees)

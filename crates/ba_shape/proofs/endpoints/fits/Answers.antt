@@ -1,5 +1,0 @@
-use Rattle.ba_shape.proofs.FitAnswer.{says_fit}
-use Rattle.ba_shape.proofs.endpoints.fits.Goals as goal
-
-pub returns : goal.returns
-returns c = says_fit c.args.epr.now c.fits.result c.fits.ensures

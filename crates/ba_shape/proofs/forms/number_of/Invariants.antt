@@ -1,7 +1,0 @@
--- The number so far is that of the digits so far.
-use Rattle.std.proofs.Common.{◌≡◌, ◌-◌, ◌^◌, min, take}
-use Rattle.std.specs.Str.Parse.{digits_value}
-use Rattle.ba_shape.proofs.forms.number_of.Given as goal
-
-abbrev pub invariant-loop-digit : goal.invariant-loop-digit
-invariant-loop-digit l = l.number ≡ min (digits_value 10 (take l.digit-index l.digits)) (2 ^ 64 - 1)

@@ -1,5 +1,0 @@
-use Rattle.ba_steps.proofs.FewObjects.{replay_last}
-use Rattle.ba_steps.proofs.laws.a_replay_has_few_objects.Goals as goal
-
-pub returns : goal.returns
-returns c = replay_last

@@ -1,5 +1,0 @@
-use Rattle.ba_steps.proofs.InRange.{in_range}
-use Rattle.ba_steps.proofs.laws.what_is_written_is_in_range.Goals as goal
-
-pub returns : goal.returns
-returns c = in_range

@@ -1,0 +1,30 @@
+-- What is put of a letter or a reply is the canonical text of its route and message: for `direct_text`.
+use Rattle.std.proofs.Common.{◌≡◌, ℕ, true, List, [], Option, Some, None, Result, Ok, Err, IfOk, IfSome, sym, ap, ◌∙◌}
+use Rattle.ba_core.specs.declared.memory.Memory.{Memory}
+use Rattle.ba_message.specs.declared.messages.Message.{Message}
+use Rattle.ba_wire_limits.specs.Replies.{reply_route}
+use Rattle.ba_wire.specs.Envelopes.{envelope_text}
+use Rattle.ba_wire.specs.declared.routes.Route.{Route}
+use Rattle.ba_wire_short.proofs.DirectTexts.{letter_is, reply_is}
+use Rattle.ba_wire_short.specs.inside.Texts.{IsDirectLetter, IsDirectReply, is_direct, letter_route}
+
+module _ (route : Route) (m : Message) (bare : route.parameters ≡ []) (direct : is_direct m ≡ true) where
+  pub letter_told : (to number : List ℕ) → route.to ≡ Some to → route.message_id ≡ Some number → route.relates_to ≡ None
+      → (told : Result (Option (List ℕ)) Memory) → IfOk told (λ found. IfSome found (IsDirectLetter to number m))
+      → IfOk told (λ found. IfSome found (λ text. text ≡ envelope_text route m))
+  letter_told to number is_to is_number none (Err why) is = tt
+  letter_told to number is_to is_number none (Ok None) is = tt
+  letter_told to number is_to is_number none (Ok (Some text)) is =
+      let same : route ≡ letter_route to number =
+      λ i. record { to = is_to i; message_id = is_number i; relates_to = none i; parameters = bare i } in
+      is.0 ∙ sym (letter_is to number m direct is.1 is.2) ∙ ap (λ (r : Route). envelope_text r m) (sym same)
+
+  pub reply_told : (related : List ℕ) → route.to ≡ None → route.message_id ≡ None → route.relates_to ≡ Some related
+      → (told : Result (Option (List ℕ)) Memory) → IfOk told (λ found. IfSome found (IsDirectReply related m))
+      → IfOk told (λ found. IfSome found (λ text. text ≡ envelope_text route m))
+  reply_told related none no_number is_related (Err why) is = tt
+  reply_told related none no_number is_related (Ok None) is = tt
+  reply_told related none no_number is_related (Ok (Some text)) is =
+      let same : route ≡ reply_route (Some related) =
+      λ i. record { to = none i; message_id = no_number i; relates_to = is_related i; parameters = bare i } in
+      is.0 ∙ sym (reply_is related m direct is.1) ∙ ap (λ (r : Route). envelope_text r m) (sym same)
