@@ -8,6 +8,7 @@ mod memory;
 mod notices;
 mod numbers;
 mod protocols;
+mod refusals;
 mod rows;
 mod states;
 
@@ -18,5 +19,9 @@ pub use memory::Memory;
 pub use notices::{Act, Leave, Notice, code_of, name_of};
 pub use numbers::number_of;
 pub use protocols::{Kind, Protocol, Side, Verdict};
+pub use refusals::{
+    ALREADY_DECIDED, BAD_ADDRESS, CHILD_PART, NO_SUCH_END, NO_SUCH_PART, NO_SUCH_SCOPE,
+    NOT_A_CHILD, NOT_A_ROOT, NOT_DRAINED, NOT_READY, WRONG_KIND, WRONG_STATE,
+};
 pub use rows::{CRow, PRow};
 pub use states::{CState, How, PState, StateName, c_name, p_name};

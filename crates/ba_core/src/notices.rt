@@ -5,6 +5,7 @@ ghost use Rattle.ba_core.specs.Words.{act_word};
 ghost use Rattle.ba_core.specs.declared.notices.Act.{Act};
 
 use crate::states::StateName;
+use std::fmt;
 
 /// A message between a coordinator and a participant that is enrolled
 /// (WS-BusinessActivity 1.2, section 3).
@@ -143,5 +144,33 @@ pub fn name_of(n: Notice) -> &'static [u8]
         Notice::CannotComplete => b"CannotComplete",
         Notice::GetStatus => b"GetStatus",
         Notice::Status(_) => b"Status",
+    }
+}
+
+impl fmt::Display for Notice {
+    ghost use Rattle.ba_core.specs.Messages.{notice_name};
+    ghost use Rattle.std.specs.Prelude.{Some};
+
+    ghost output = { λ notice. Some (notice_name notice) };
+
+    fn fmt<W: fmt::Write>(&self, f: &mut fmt::Formatter<W>) -> fmt::Result {
+        match self {
+            Notice::Complete => write!(f, "Complete"),
+            Notice::Close => write!(f, "Close"),
+            Notice::Cancel => write!(f, "Cancel"),
+            Notice::Compensate => write!(f, "Compensate"),
+            Notice::Failed => write!(f, "Failed"),
+            Notice::Exited => write!(f, "Exited"),
+            Notice::NotCompleted => write!(f, "NotCompleted"),
+            Notice::Completed => write!(f, "Completed"),
+            Notice::Closed => write!(f, "Closed"),
+            Notice::Canceled => write!(f, "Canceled"),
+            Notice::Compensated => write!(f, "Compensated"),
+            Notice::Fail => write!(f, "Fail"),
+            Notice::Exit => write!(f, "Exit"),
+            Notice::CannotComplete => write!(f, "CannotComplete"),
+            Notice::GetStatus => write!(f, "GetStatus"),
+            Notice::Status(_) => write!(f, "Status"),
+        }
     }
 }

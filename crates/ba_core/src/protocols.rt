@@ -5,6 +5,8 @@ ghost use Rattle.ba_core.specs.declared.protocols.Kind.{Kind};
 ghost use Rattle.ba_core.specs.declared.protocols.Protocol.{Protocol};
 ghost use Rattle.ba_core.specs.declared.protocols.Verdict.{Verdict};
 
+use std::fmt;
+
 /// The protocol between a coordinator and a participant (WS-BusinessActivity 1.2, section 3).
 #[derive(Clone, Copy, Debug, PartialEq, Eq, Hash)]
 pub enum Protocol {
@@ -37,6 +39,20 @@ impl Protocol {
             return Some(Protocol::Cc);
         }
         None
+    }
+}
+
+impl fmt::Display for Protocol {
+    ghost use Rattle.ba_core.specs.Words.{protocol_word};
+    ghost use Rattle.std.specs.Prelude.{Some};
+
+    ghost output = { λ protocol. Some (protocol_word protocol) };
+
+    fn fmt<W: fmt::Write>(&self, f: &mut fmt::Formatter<W>) -> fmt::Result {
+        match self {
+            Protocol::Pc => write!(f, "pc"),
+            Protocol::Cc => write!(f, "cc"),
+        }
     }
 }
 
@@ -75,6 +91,20 @@ impl Kind {
     }
 }
 
+impl fmt::Display for Kind {
+    ghost use Rattle.ba_core.specs.Words.{kind_word};
+    ghost use Rattle.std.specs.Prelude.{Some};
+
+    ghost output = { λ kind. Some (kind_word kind) };
+
+    fn fmt<W: fmt::Write>(&self, f: &mut fmt::Formatter<W>) -> fmt::Result {
+        match self {
+            Kind::Atomic => write!(f, "atomic"),
+            Kind::Mixed => write!(f, "mixed"),
+        }
+    }
+}
+
 /// What is decided for a participant's work.
 #[derive(Clone, Copy, Debug, PartialEq, Eq, Hash)]
 pub enum Verdict {
@@ -107,6 +137,20 @@ impl Verdict {
             return Some(Verdict::Undo);
         }
         None
+    }
+}
+
+impl fmt::Display for Verdict {
+    ghost use Rattle.ba_core.specs.Words.{verdict_word};
+    ghost use Rattle.std.specs.Prelude.{Some};
+
+    ghost output = { λ verdict. Some (verdict_word verdict) };
+
+    fn fmt<W: fmt::Write>(&self, f: &mut fmt::Formatter<W>) -> fmt::Result {
+        match self {
+            Verdict::Close => write!(f, "close"),
+            Verdict::Undo => write!(f, "undo"),
+        }
     }
 }
 

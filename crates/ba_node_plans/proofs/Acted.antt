@@ -12,13 +12,13 @@ use Rattle.ba_node_objects.specs.Finds.{FindsLone, FindsUp}
 use Rattle.ba_record.specs.declared.records.Record.TheVariants as journal
 use Rattle.ba_scope_ends.specs.Parts.{part_in_state}
 use Rattle.ba_scope.specs.Scope.{ScopeState}
-use Rattle.ba_scope.specs.declared.answers.TheConstants.{WRONG_STATE}
+use Rattle.ba_core.specs.declared.refusals.TheConstants.{WRONG_STATE}
 use Rattle.ba_scope_ends.specs.declared.parts.Part.{Part}
 use Rattle.ba_node_steps.specs.Fits.{NodeFits}
 use Rattle.ba_node_steps.specs.Node.{NodeState, PartPlace, counter, nowhere, part_place, with_lone}
 use Rattle.ba_node_steps.specs.Steps.{NodeStep, act_at, on_act, refusal_step, written_step}
 use Rattle.ba_node_steps.specs.declared.answers.Reply.TheVariants as reply
-use Rattle.ba_node_steps.specs.declared.answers.TheConstants.{CHILD_PART, NO_SUCH_PART}
+use Rattle.ba_core.specs.declared.refusals.TheConstants.{CHILD_PART, NO_SUCH_PART}
 use Rattle.ba_node_steps.specs.declared.answers.Wake.TheVariants as wake
 
 abbrev acting_at : NodeState → Id → Act → PartPlace → NodeStep

@@ -18,7 +18,7 @@ use Rattle.ba_scope.specs.Rules.{ScopeStep, flag, with_end_changed, with_up}
 use Rattle.ba_scope.specs.Scope.{ScopeState}
 use Rattle.ba_scope_ends.specs.declared.ends.End.{End}
 use Rattle.ba_scope_ends.specs.declared.parts.Part.{Part}
-use Rattle.ba_scope.specs.declared.answers.TheConstants.{NO_SUCH_END, WRONG_STATE}
+use Rattle.ba_core.specs.declared.refusals.TheConstants.{NO_SUCH_END, WRONG_STATE}
 use Rattle.ba_node_steps.proofs.Members.{number_is_same, same_by_number}
 use Rattle.ba_node_steps.proofs.Objects.{no_end_is_a_part}
 use Rattle.ba_node_steps.proofs.Own.{asking_who, end_changed, owing_who, up_changed}

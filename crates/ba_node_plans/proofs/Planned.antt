@@ -21,7 +21,7 @@ use Rattle.ba_scope.specs.Rules.{ScopeStep, choose, complete, decide, finish, le
 use Rattle.ba_scope.specs.Scope.{ScopeState}
 use Rattle.ba_scope.specs.declared.answers.Said.{Said}
 use Rattle.ba_scope.specs.declared.answers.Said.TheVariants as said
-use Rattle.ba_scope.specs.declared.answers.TheConstants.{NO_SUCH_END, NOT_A_CHILD}
+use Rattle.ba_core.specs.declared.refusals.TheConstants.{NO_SUCH_END, NOT_A_CHILD}
 use Rattle.ba_scope_ends.specs.declared.ends.End.{End}
 use Rattle.ba_scope_ends.specs.declared.parts.Part.{Part}
 use Rattle.ba_node_steps.proofs.NodeKept.{id_kept}
@@ -31,7 +31,7 @@ use Rattle.ba_node_steps.specs.Node.{EndPlace, NodeState, counter, end_place, sc
 use Rattle.ba_node_steps.specs.Steps.{NodeStep, choice_number, complete_number, if_found, on_choose, on_complete, on_decide, on_finish, on_leave}
 use Rattle.ba_node_steps.specs.Steps.{refusal_step, rule_step, up_act_step, wake_of_choice, written_step}
 use Rattle.ba_node_steps.specs.declared.answers.Reply.TheVariants as reply
-use Rattle.ba_node_steps.specs.declared.answers.TheConstants.{NO_SUCH_SCOPE}
+use Rattle.ba_core.specs.declared.refusals.TheConstants.{NO_SUCH_SCOPE}
 use Rattle.ba_node_steps.specs.declared.answers.Wake.{Wake}
 use Rattle.ba_node_steps.specs.declared.answers.Wake.TheVariants as wake
 

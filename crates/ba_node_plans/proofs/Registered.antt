@@ -26,7 +26,7 @@ use Rattle.ba_node_steps.specs.Node.{NodeState, PartPlace, counter, lone, nowher
 use Rattle.ba_node_steps.specs.Steps.{NodeStep, accepted_step, if_found, if_placed, is_registering_state, on_enrolled, on_refused_by}
 use Rattle.ba_node_steps.specs.Steps.{refusal_number, refusal_step, written_step}
 use Rattle.ba_node_steps.specs.declared.answers.Reply.TheVariants as reply
-use Rattle.ba_node_steps.specs.declared.answers.TheConstants.{BAD_ADDRESS, NO_SUCH_PART}
+use Rattle.ba_core.specs.declared.refusals.TheConstants.{BAD_ADDRESS, NO_SUCH_PART}
 use Rattle.ba_node_steps.specs.declared.answers.Wake.TheVariants as wake
 
 -- two tests that are true together are one

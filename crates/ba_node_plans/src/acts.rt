@@ -6,11 +6,10 @@ ghost use Rattle.ba_node_steps.specs.Fits.{NodeFits};
 ghost use Rattle.ba_node_steps.specs.Steps.{on_act};
 
 use crate::plans::Plan;
-use ba_core::{Act, Id};
+use ba_core::{Act, CHILD_PART, Id, NO_SUCH_PART, WRONG_STATE};
 use ba_node_objects::{Change, Objects, PartChange};
-use ba_node_steps::{CHILD_PART, NO_SUCH_PART, Wake};
+use ba_node_steps::Wake;
 use ba_record::Record;
-use ba_scope::WRONG_STATE;
 
 /// The work of the lone participant with this identifier came to this.
 pub fn act(node: &Objects, id: Id, act: Act) -> Plan

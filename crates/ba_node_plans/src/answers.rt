@@ -11,10 +11,10 @@ ghost use Rattle.ba_node_steps.specs.Steps.{on_enrolled, on_refused_by, refusal_
 
 use crate::plans::Plan;
 use crate::states::{can_dial, is_registering};
-use ba_core::{Code, Id, Memory};
+use ba_core::{BAD_ADDRESS, Code, Id, Memory, NO_SUCH_PART};
 use ba_message::Epr;
 use ba_node_objects::{Change, FoundLone, FoundUp, Objects, PartChange, ScopeChange};
-use ba_node_steps::{BAD_ADDRESS, NO_SUCH_PART, Wake};
+use ba_node_steps::Wake;
 use ba_record::Record;
 use std::alloc::Global;
 

@@ -11,11 +11,10 @@ ghost use Rattle.ba_node_steps.specs.Steps.{ask_end, ask_part, on_ask};
 
 use crate::plans::Plan;
 use crate::states::lacks_coordinator;
-use ba_core::Id;
+use ba_core::{Id, NO_SUCH_END, WRONG_STATE};
 use ba_node_objects::{Change, FoundEnd, FoundLone, FoundUp, Objects, PartChange, ScopeChange};
 use ba_node_steps::Wake;
 use ba_record::Record;
-use ba_scope::{NO_SUCH_END, WRONG_STATE};
 
 /// The other side of the end or of the participant with this identifier is to be asked.
 pub fn ask(node: &Objects, id: Id) -> Plan

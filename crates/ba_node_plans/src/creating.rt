@@ -12,11 +12,11 @@ ghost use Rattle.ba_node_steps.specs.Steps.{create_child, create_scope, deadline
 
 use crate::plans::Plan;
 use crate::states::can_dial;
-use ba_core::{Code, Id, Kind, Memory, PState, Protocol};
+use ba_core::{BAD_ADDRESS, Code, Id, Kind, Memory, PState, Protocol};
 use ba_message::{Context, Epr};
 use ba_node_addresses::{context_identifier, registration_of};
 use ba_node_objects::{Change, Objects};
-use ba_node_steps::{BAD_ADDRESS, Reply, Wake};
+use ba_node_steps::{Reply, Wake};
 use ba_record::Record;
 use ba_scope::Scope;
 use ba_scope_ends::Part;

@@ -9,11 +9,11 @@ ghost use Rattle.ba_node_steps.specs.Fits.{NodeFits};
 ghost use Rattle.ba_node_steps.specs.Steps.{choice_number, on_choose, on_complete, on_decide, on_finish, on_leave, wake_of_choice};
 
 use crate::plans::Plan;
-use ba_core::{Act, Id, Leave, Verdict};
+use ba_core::{Act, Id, Leave, NO_SUCH_END, NO_SUCH_SCOPE, NOT_A_CHILD, Verdict};
 use ba_node_objects::{Change, Objects, ScopeChange};
-use ba_node_steps::{NO_SUCH_SCOPE, Wake};
+use ba_node_steps::Wake;
 use ba_record::Record;
-use ba_scope::{NO_SUCH_END, NOT_A_CHILD, Said};
+use ba_scope::Said;
 use ba_scope_ends::End;
 
 // That an end's participant was asked to complete, among the choices in a record.

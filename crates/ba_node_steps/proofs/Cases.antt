@@ -37,12 +37,12 @@ use Rattle.ba_scope.specs.declared.answers.EnrolFault.{EnrolFault}
 use Rattle.ba_scope.specs.declared.answers.EnrolFault.TheVariants.{NotYetEnrolled, Sealed, Full}
 use Rattle.ba_scope.specs.declared.answers.Said.{Said}
 use Rattle.ba_scope.specs.declared.answers.Said.TheVariants as said
-use Rattle.ba_scope.specs.declared.answers.TheConstants.{NO_SUCH_END, NOT_A_CHILD, WRONG_STATE}
+use Rattle.ba_core.specs.declared.refusals.TheConstants.{NO_SUCH_END, NOT_A_CHILD, WRONG_STATE}
 use Rattle.ba_scope_ends.specs.declared.ends.End.{End}
 use Rattle.ba_scope_ends.specs.declared.parts.Part.{Part}
 use Rattle.ba_node_steps.specs.declared.answers.Reply.{Reply}
 use Rattle.ba_node_steps.specs.declared.answers.Reply.TheVariants as reply
-use Rattle.ba_node_steps.specs.declared.answers.TheConstants.{BAD_ADDRESS, CHILD_PART, NO_SUCH_PART, NO_SUCH_SCOPE}
+use Rattle.ba_core.specs.declared.refusals.TheConstants.{BAD_ADDRESS, CHILD_PART, NO_SUCH_PART, NO_SUCH_SCOPE}
 use Rattle.ba_node_steps.specs.declared.answers.Wake.{Wake}
 use Rattle.ba_node_steps.specs.declared.answers.Wake.TheVariants as wake
 use Rattle.ba_node_steps.specs.Addresses.{coordinator_of}

@@ -3,18 +3,6 @@
 use ba_core::{CState, Code, Id, Kind, PState, Protocol, Verdict};
 use ba_message::{Context, Epr, Letter};
 
-/// The node has no such scope.
-pub const NO_SUCH_SCOPE: u8 = 41;
-
-/// The node has no such participant.
-pub const NO_SUCH_PART: u8 = 42;
-
-/// The address can't be dialed.
-pub const BAD_ADDRESS: u8 = 46;
-
-/// The participant is a child scope's own: it acts by its scope alone.
-pub const CHILD_PART: u8 = 47;
-
 /// The answer to an input.
 #[derive(Debug, Drop)]
 pub enum Reply {

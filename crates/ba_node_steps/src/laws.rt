@@ -12,7 +12,7 @@ ghost use Rattle.ba_core.specs.declared.states.PState.TheVariants as part;
 ghost use Rattle.ba_message.specs.declared.messages.Letter.{Letter};
 ghost use Rattle.ba_record.specs.Coding.{InRange};
 ghost use Rattle.ba_record.specs.declared.records.Record.{Record};
-ghost use Rattle.ba_scope.specs.declared.answers.TheConstants.{ALREADY_DECIDED, NOT_READY};
+ghost use Rattle.ba_core.specs.declared.refusals.TheConstants.{ALREADY_DECIDED, NOT_READY};
 ghost use Rattle.ba_node_steps.specs.Addresses.{HasText, coordinator_of, participant_of, registration_of};
 ghost use Rattle.ba_node_steps.specs.Endpoints.{AllReachable, GivesFit};
 ghost use Rattle.ba_node_steps.specs.Examples.{node_after, after_records, all_written, child_is_made, fails_below, first_base, first_completes, first_node, object, own_choices, register_below, register_of, reply_to, second_exits, second_node, shown_ends, shown_scopes};

@@ -6,9 +6,7 @@ mod answers;
 mod inputs;
 mod laws;
 
-pub use answers::{
-    BAD_ADDRESS, CHILD_PART, Done, NO_SUCH_PART, NO_SUCH_SCOPE, Reply, Seen, Ticked, Wake,
-};
+pub use answers::{Done, Reply, Seen, Ticked, Wake};
 pub use inputs::Input;
 pub use laws::{
     a_lawful_list_has_one_replay, a_record_gives_what_fits, a_record_tells_its_step,

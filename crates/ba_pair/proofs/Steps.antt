@@ -29,7 +29,7 @@ use Rattle.ba_pair.specs.declared.events.PairEvent.TheVariants as event
 use Rattle.ba_pair.specs.declared.events.StepFault.{StepFault}
 use Rattle.ba_pair.specs.declared.lines.Line.{Line}
 use Rattle.ba_pair.specs.declared.lines.Line.TheVariants as line
-use Rattle.ba_pair.specs.declared.sides.TheConstants.{ALREADY_DECIDED, NOT_READY, WRONG_STATE}
+use Rattle.ba_core.specs.declared.refusals.TheConstants.{ALREADY_DECIDED, NOT_READY, WRONG_STATE}
 use Rattle.ba_pair.specs.PairState.{PairState, PairFits, link_of, state_of_pair, link_message, is_for_part, message_at}
 use Rattle.ba_pair.specs.PairPlay.{Effect, MovesBy, arrival_of, move_of, happens, refused_effect, acted_effect, end_ticked_effect}
 use Rattle.ba_pair.specs.PairPlay.{part_ticked_effect, chosen_effect, completed_effect, end_received_effect, part_received_effect}

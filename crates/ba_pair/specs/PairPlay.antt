@@ -22,7 +22,7 @@ use Rattle.ba_pair.specs.declared.events.PairEvent.{PairEvent}
 use Rattle.ba_pair.specs.declared.events.PairEvent.TheVariants.{Act, Tick, Choose, Complete, Deliver}
 use Rattle.ba_pair.specs.declared.lines.Line.{Line}
 use Rattle.ba_pair.specs.declared.lines.Line.TheVariants as line
-use Rattle.ba_pair.specs.declared.sides.TheConstants.{ALREADY_DECIDED, NOT_READY, WRONG_STATE}
+use Rattle.ba_core.specs.declared.refusals.TheConstants.{ALREADY_DECIDED, NOT_READY, WRONG_STATE}
 use Rattle.ba_pair.specs.PairState.{PairState, PairFits, is_for_part, message_at, state_of_pair, link_of}
 use Rattle.ba_pair.specs.Recorded.{Played, OutcomesRecorded}
 

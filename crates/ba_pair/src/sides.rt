@@ -8,7 +8,10 @@ ghost use Rattle.ba_pair.specs.PairState.{is_for_part, message_at};
 
 use crate::events::{PairEvent, StepFault};
 use crate::lines::Line;
-use ba_core::{Act, CRow, CState, Code, Memory, Notice, PRow, PState, Protocol, Side, Verdict};
+use ba_core::{
+    ALREADY_DECIDED, Act, CRow, CState, Code, Memory, NOT_READY, Notice, PRow, PState, Protocol,
+    Side, Verdict, WRONG_STATE,
+};
 use std::alloc::Global;
 use std::marker::Model;
 
@@ -32,14 +35,6 @@ impl Model for Sides {
 
 // How many messages a new bag has room for.
 const ROOM: usize = 64;
-
-// Why an event is refused: there is a verdict already, the end isn't ready for that verdict, the state doesn't
-// let it.
-const ALREADY_DECIDED: u8 = 34;
-
-const NOT_READY: u8 = 35;
-
-const WRONG_STATE: u8 = 43;
 
 fn refused(why: u8) -> Line
     ensures { result ≡ Line.Refused why None }

@@ -35,8 +35,8 @@ use Rattle.ba_message.specs.Endpoints.{same_epr}
 use Rattle.ba_message.specs.declared.endpoints.Epr.{Epr}
 use Rattle.ba_scope.specs.declared.answers.EnrolFault.TheVariants.{NotYetEnrolled, Sealed, Full}
 use Rattle.ba_scope.specs.declared.answers.Said.{Said}
-use Rattle.ba_scope.specs.declared.answers.TheConstants.{ALREADY_DECIDED, NOT_READY, NOT_A_ROOT, WRONG_KIND, NO_SUCH_END, NOT_A_CHILD}
-use Rattle.ba_scope.specs.declared.answers.TheConstants.{NOT_DRAINED, WRONG_STATE}
+use Rattle.ba_core.specs.declared.refusals.TheConstants.{ALREADY_DECIDED, NOT_READY, NOT_A_ROOT, WRONG_KIND, NO_SUCH_END, NOT_A_CHILD}
+use Rattle.ba_core.specs.declared.refusals.TheConstants.{NOT_DRAINED, WRONG_STATE}
 use Rattle.ba_scope_ends.specs.declared.ends.End.{End}
 use Rattle.ba_scope_ends.specs.declared.parts.Part.{Part}
 use Rattle.ba_scope_ends.specs.Parts.{part_fits, part_in_state, enrolled_part, refused_part, tick_of_part, act_when_drained, state_after_act}

@@ -21,8 +21,8 @@ use Rattle.ba_scope.specs.Rules.{leave_act, leave_by, leave_for, may_leave, refu
 use Rattle.ba_scope.specs.Rules.{with_end_changed, with_up}
 use Rattle.ba_scope.specs.Scope.{ScopeState}
 use Rattle.ba_scope.specs.declared.answers.Said.{Said}
-use Rattle.ba_scope.specs.declared.answers.TheConstants.{ALREADY_DECIDED, NOT_A_CHILD, NOT_A_ROOT, NOT_DRAINED, NOT_READY, NO_SUCH_END}
-use Rattle.ba_scope.specs.declared.answers.TheConstants.{WRONG_KIND, WRONG_STATE}
+use Rattle.ba_core.specs.declared.refusals.TheConstants.{ALREADY_DECIDED, NOT_A_CHILD, NOT_A_ROOT, NOT_DRAINED, NOT_READY, NO_SUCH_END}
+use Rattle.ba_core.specs.declared.refusals.TheConstants.{WRONG_KIND, WRONG_STATE}
 use Rattle.ba_scope_ends.specs.declared.ends.End.{End}
 use Rattle.ba_scope_ends.specs.declared.parts.Part.{Part}
 

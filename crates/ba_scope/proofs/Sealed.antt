@@ -22,8 +22,8 @@ use Rattle.ba_message.specs.declared.endpoints.Epr.{Epr}
 use Rattle.ba_scope.specs.Calls.{Call, by_enrol, by_decide, by_choose, by_complete, by_expire, by_end_receive, by_end_tick, by_enrolled}
 use Rattle.ba_scope.specs.Calls.{by_refused, by_finish, by_leave, by_up_receive, by_up_tick, by_owe, by_ask, scope_after}
 use Rattle.ba_scope.specs.declared.answers.Said.{Said}
-use Rattle.ba_scope.specs.declared.answers.TheConstants.{ALREADY_DECIDED, NOT_READY, NOT_A_ROOT, WRONG_KIND, NO_SUCH_END, NOT_A_CHILD}
-use Rattle.ba_scope.specs.declared.answers.TheConstants.{NOT_DRAINED, WRONG_STATE}
+use Rattle.ba_core.specs.declared.refusals.TheConstants.{ALREADY_DECIDED, NOT_READY, NOT_A_ROOT, WRONG_KIND, NO_SUCH_END, NOT_A_CHILD}
+use Rattle.ba_core.specs.declared.refusals.TheConstants.{NOT_DRAINED, WRONG_STATE}
 use Rattle.ba_scope_ends.specs.declared.ends.End.{End}
 use Rattle.ba_scope_ends.specs.declared.parts.Part.{Part}
 use Rattle.ba_scope_ends.specs.Ends.{Tick, is_ready_for, end_owing, end_asking, end_with_id, first_failing, is_ended_state, is_ready_state}

@@ -11,12 +11,11 @@ ghost use Rattle.ba_scope.specs.Rules.{ask, choose, complete, decide, drained_as
 ghost use Rattle.ba_scope.specs.Scope.{has_id, is_at_work, is_id_above};
 ghost use Rattle.ba_scope.specs.inside.Moves.{expired_scope, with_up_acted};
 
-use crate::answers::{
-    ALREADY_DECIDED, Drained, EnrolFault, NO_SUCH_END, NOT_A_CHILD, NOT_A_ROOT, NOT_DRAINED,
-    NOT_READY, Said, WRONG_KIND, WRONG_STATE,
-};
+use crate::answers::{Drained, EnrolFault, Said};
 use ba_core::{
-    Act, CRow, CState, Id, Kind, Leave, Memory, Notice, PRow, PState, Protocol, Verdict,
+    ALREADY_DECIDED, Act, CRow, CState, Id, Kind, Leave, Memory, NO_SUCH_END, NOT_A_CHILD,
+    NOT_A_ROOT, NOT_DRAINED, NOT_READY, Notice, PRow, PState, Protocol, Verdict, WRONG_KIND,
+    WRONG_STATE,
 };
 use ba_message::Epr;
 use ba_scope_ends::{

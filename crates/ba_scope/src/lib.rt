@@ -7,9 +7,6 @@ mod fields;
 mod laws;
 mod scopes;
 
-pub use answers::{
-    ALREADY_DECIDED, Drained, EnrolFault, MOST_ENDS, NO_SUCH_END, NOT_A_CHILD, NOT_A_ROOT,
-    NOT_DRAINED, NOT_READY, Said, WRONG_KIND, WRONG_STATE,
-};
+pub use answers::{Drained, EnrolFault, MOST_ENDS, Said};
 pub use laws::what_is_sealed_stays_sealed;
 pub use scopes::Scope;

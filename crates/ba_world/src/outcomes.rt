@@ -3,9 +3,9 @@ ghost use Rattle.std.specs.Prelude.{◌≡◌};
 ghost use Rattle.ba_world_play.specs.Outcomes.{label_of, refused_outcome};
 ghost use Rattle.ba_world.specs.inside.Shown.{answer_shown, reply_shown};
 
-use ba_core::{Code, Id};
+use ba_core::{BAD_ADDRESS, Code, Id};
 use ba_message::Message;
-use ba_node_steps::{BAD_ADDRESS, Reply};
+use ba_node_steps::Reply;
 use ba_world_events::{Label, Outcome};
 use ba_world_places::Answer;
 

@@ -51,22 +51,7 @@ impl fmt::Display for Label {
 
     fn fmt<W: fmt::Write>(&self, f: &mut fmt::Formatter<W>) -> fmt::Result {
         match self {
-            Label::Notice(Notice::Complete) => write!(f, "Complete"),
-            Label::Notice(Notice::Close) => write!(f, "Close"),
-            Label::Notice(Notice::Cancel) => write!(f, "Cancel"),
-            Label::Notice(Notice::Compensate) => write!(f, "Compensate"),
-            Label::Notice(Notice::Failed) => write!(f, "Failed"),
-            Label::Notice(Notice::Exited) => write!(f, "Exited"),
-            Label::Notice(Notice::NotCompleted) => write!(f, "NotCompleted"),
-            Label::Notice(Notice::Completed) => write!(f, "Completed"),
-            Label::Notice(Notice::Closed) => write!(f, "Closed"),
-            Label::Notice(Notice::Canceled) => write!(f, "Canceled"),
-            Label::Notice(Notice::Compensated) => write!(f, "Compensated"),
-            Label::Notice(Notice::Fail) => write!(f, "Fail"),
-            Label::Notice(Notice::Exit) => write!(f, "Exit"),
-            Label::Notice(Notice::CannotComplete) => write!(f, "CannotComplete"),
-            Label::Notice(Notice::GetStatus) => write!(f, "GetStatus"),
-            Label::Notice(Notice::Status(_)) => write!(f, "Status"),
+            Label::Notice(notice) => write!(f, "{notice}"),
             Label::Register => write!(f, "Register"),
             Label::RegisterResponse => write!(f, "RegisterResponse"),
             Label::Fault(code) => write!(f, "fault {code}"),

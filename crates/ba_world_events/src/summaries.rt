@@ -18,42 +18,6 @@ pub enum Summary {
     Bag(u64),
 }
 
-// A kind by its word.
-#[derive(Clone, Copy)]
-struct KindWord(Kind);
-
-impl fmt::Display for KindWord {
-    ghost use Rattle.ba_core.specs.Words.{kind_word};
-    ghost use Rattle.std.specs.Prelude.{Some};
-
-    ghost output = { λ word. Some (kind_word word.0) };
-
-    fn fmt<W: fmt::Write>(&self, f: &mut fmt::Formatter<W>) -> fmt::Result {
-        match self.0 {
-            Kind::Atomic => write!(f, "atomic"),
-            Kind::Mixed => write!(f, "mixed"),
-        }
-    }
-}
-
-// A protocol by its word.
-#[derive(Clone, Copy)]
-struct ProtocolWord(Protocol);
-
-impl fmt::Display for ProtocolWord {
-    ghost use Rattle.ba_core.specs.Words.{protocol_word};
-    ghost use Rattle.std.specs.Prelude.{Some};
-
-    ghost output = { λ word. Some (protocol_word word.0) };
-
-    fn fmt<W: fmt::Write>(&self, f: &mut fmt::Formatter<W>) -> fmt::Result {
-        match self.0 {
-            Protocol::Pc => write!(f, "pc"),
-            Protocol::Cc => write!(f, "cc"),
-        }
-    }
-}
-
 // A verdict by its word, or that there is none.
 #[derive(Clone, Copy)]
 struct VerdictWord(Option<Verdict>);
@@ -67,8 +31,7 @@ impl fmt::Display for VerdictWord {
     fn fmt<W: fmt::Write>(&self, f: &mut fmt::Formatter<W>) -> fmt::Result {
         match self.0 {
             None => write!(f, "none"),
-            Some(Verdict::Close) => write!(f, "close"),
-            Some(Verdict::Undo) => write!(f, "undo"),
+            Some(verdict) => write!(f, "{verdict}"),
         }
     }
 }
@@ -82,17 +45,14 @@ impl fmt::Display for Summary {
     fn fmt<W: fmt::Write>(&self, f: &mut fmt::Formatter<W>) -> fmt::Result {
         match self {
             Summary::Scope(id, kind, verdict) => {
-                let (kind, verdict) = (KindWord(*kind), VerdictWord(*verdict));
+                let verdict = VerdictWord(*verdict);
                 write!(f, "{id} scope {kind} {verdict}")
             }
             Summary::End(id, protocol, state, verdict) => {
-                let (protocol, verdict) = (ProtocolWord(*protocol), VerdictWord(*verdict));
+                let verdict = VerdictWord(*verdict);
                 write!(f, "{id} end {protocol} {state} {verdict}")
             }
-            Summary::Part(id, protocol, state) => {
-                let protocol = ProtocolWord(*protocol);
-                write!(f, "{id} part {protocol} {state}")
-            }
+            Summary::Part(id, protocol, state) => write!(f, "{id} part {protocol} {state}"),
             Summary::NodeDown(node) => write!(f, "node {node} down"),
             Summary::Bag(count) => write!(f, "bag={count}"),
         }

@@ -13,7 +13,7 @@ use Rattle.ba_node_steps.specs.Node.{NodeState, next_id}
 use Rattle.ba_node_steps.specs.Steps.{node_step}
 use Rattle.ba_node_steps.specs.declared.answers.Reply.{Reply}
 use Rattle.ba_node_steps.specs.declared.answers.Reply.TheVariants as reply
-use Rattle.ba_node_steps.specs.declared.answers.TheConstants.{BAD_ADDRESS}
+use Rattle.ba_core.specs.declared.refusals.TheConstants.{BAD_ADDRESS}
 use Rattle.ba_node_steps.specs.declared.inputs.Input.{Input}
 use Rattle.ba_node_steps.specs.declared.inputs.Input.TheVariants as input
 

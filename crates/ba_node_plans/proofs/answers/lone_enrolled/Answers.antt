@@ -3,7 +3,7 @@ use Rattle.ba_message.specs.Dialing.{is_dialable}
 use Rattle.ba_node_plans.proofs.Planned.{lone_suits, nothing_suits}
 use Rattle.ba_node_plans.proofs.Registered.{enrolled_already, enrolled_badly, lone_enrolled, lone_enrolling}
 use Rattle.ba_node_steps.specs.Node.{lone}
-use Rattle.ba_node_steps.specs.declared.answers.TheConstants.{BAD_ADDRESS}
+use Rattle.ba_core.specs.declared.refusals.TheConstants.{BAD_ADDRESS}
 use Rattle.ba_node_steps.specs.Steps.{is_registering_state, refusal_step}
 use Rattle.ba_node_plans.proofs.answers.lone_enrolled.Goals as goal
 
