@@ -2,7 +2,7 @@
 ghost use Rattle.std.specs.Prelude.{◌≡◌, ℕ, true, List, Option};
 ghost use Rattle.std.specs.Io.{ReadsAtMost, WritesAtMost};
 ghost use Rattle.std.specs.Io.KnownBytes.{ReadConsumes, WriteAppends, Keeps};
-ghost use Rattle.ba_ports.specs.Causes.{HasCause, Rose};
+ghost use Rattle.ba_ports.specs.Causes.{CountsFailedWrites, CountsFailures, Rose};
 ghost use Rattle.ba_ports.specs.Streams.{takes_nothing};
 
 use crate::failures::Failed;
@@ -23,7 +23,7 @@ pub trait Link {
         ensures bound { ReadsAtMost result room.new }
         ensures bytes { ReadConsumes (left self.old) (left self.new) result room.new }
         ensures others { Keeps (written self.old) (written self.new) }
-        ensures cause { HasCause (faults self.old) (faults self.new) result };
+        ensures cause { CountsFailures (faults self.old) (faults self.new) result };
 
     /// Appends a prefix of the piece, and returns how many bytes. After `Failed` nothing was appended.
     fn write(&mut self, piece: &[u8]) -> Result<usize, Failed>
@@ -31,7 +31,7 @@ pub trait Link {
         ensures bytes { WriteAppends (written self.old) (written self.new) result piece.now }
         ensures others { Keeps (left self.old) (left self.new) }
         ensures nothing { takes_nothing result piece.now ≡ true → Rose (faults self.old) (faults self.new) }
-        ensures cause { HasCause (faults self.old) (faults self.new) result };
+        ensures cause { CountsFailedWrites (faults self.old) (faults self.new) (takes_nothing result piece.now) result };
 
     /// How often the link has failed; the greatest u64 stands for that many or more.
     fn faults(&self) -> u64

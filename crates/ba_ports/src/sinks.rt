@@ -2,7 +2,7 @@
 ghost use Rattle.std.specs.Prelude.{◌≡◌, ℕ, Bool, List, Option};
 ghost use Rattle.std.specs.Io.{WritesAtMost};
 ghost use Rattle.std.specs.Io.KnownBytes.{WriteAppends};
-ghost use Rattle.ba_ports.specs.Causes.{HasCause};
+ghost use Rattle.ba_ports.specs.Causes.{CountsFailedWrites};
 ghost use Rattle.ba_ports.specs.Streams.{takes_nothing};
 
 use crate::failures::Failed;
@@ -21,7 +21,7 @@ pub trait Sink {
         ensures bound { WritesAtMost result piece.now }
         ensures bytes { WriteAppends (written self.old) (written self.new) result piece.now }
         ensures nothing { took_nothing self.new ≡ takes_nothing result piece.now }
-        ensures cause { HasCause (faults self.old) (faults self.new) result };
+        ensures cause { CountsFailedWrites (faults self.old) (faults self.new) (takes_nothing result piece.now) result };
 
     /// How often the sink has failed; the greatest u64 stands for that many or more.
     fn faults(&self) -> u64

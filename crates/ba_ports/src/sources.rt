@@ -2,7 +2,7 @@
 ghost use Rattle.std.specs.Prelude.{◌≡◌, ℕ, List, Option};
 ghost use Rattle.std.specs.Io.{ReadsAtMost};
 ghost use Rattle.std.specs.Io.KnownBytes.{ReadConsumes};
-ghost use Rattle.ba_ports.specs.Causes.{HasCause};
+ghost use Rattle.ba_ports.specs.Causes.{CountsFailures};
 
 use crate::failures::Failed;
 
@@ -18,7 +18,7 @@ pub trait Source {
     fn read(&mut self, room: &mut [u8]) -> Result<usize, Failed>
         ensures bound { ReadsAtMost result room.new }
         ensures bytes { ReadConsumes (left self.old) (left self.new) result room.new }
-        ensures cause { HasCause (faults self.old) (faults self.new) result };
+        ensures cause { CountsFailures (faults self.old) (faults self.new) result };
 
     /// How often the source has failed; the greatest u64 stands for that many or more.
     fn faults(&self) -> u64
