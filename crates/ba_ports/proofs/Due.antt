@@ -1,9 +1,12 @@
 -- What is written of what is due, piece by piece.
-use Rattle.std.proofs.Common.{◌≡◌, ℕ, ◌+◌, ◌-◌, ◌≤◌, List, [], ◌++◌, length, take, drop, Option, Some, None, refl, sym, ap, ◌∙◌, append-nil}
+use Rattle.std.proofs.Common.{◌≡◌, ℕ, false, ◌∷◌, Ok, ◌+◌, ◌-◌, ◌≤◌, List, [], ◌++◌, length, take, drop, Option, Some, None, refl, sym, ap, ◌∙◌, append-nil}
 use Rattle.std.proofs.Common.{append_assoc, length-drop, arith}
 use Rattle.std.specs.Io.KnownBytes.{Appends, Keeps}
 use Rattle.std.proofs.KnownBytes.{Appends-trans, Appends-nil}
 use Rattle.ba_ports.specs.Outputs.{Writes, WritesPart}
+use Rattle.ba_ports.specs.Streams.{takes_nothing}
+use Rattle.ba_ports.specs.declared.failures.Failed.{Failed}
+use Rattle.std.proofs.lemmas.Bool.Decides.{nat_tests}
 use Rattle.std.proofs.lemmas.List.{take-append-drop, take_all}
 use Rattle.std.proofs.Math.Seq.{take-add}
 
@@ -61,3 +64,8 @@ longer_front bytes at count h =
 -- where more is due, what was written of the first part is a part of it
 pub part_before : (old new : Option (List ℕ)) (due more : List ℕ) → WritesPart old new due → WritesPart old new (due ++ more)
 part_before old new due more h = (h.0 ++ more, writes_before old new due h.0 more h.1)
+
+-- a write that took a byte didn't take nothing
+pub takes_some : (n : ℕ) (piece : List ℕ) → (n ≡ 0 → ⊥) → takes_nothing {E = Failed} (Ok n) piece ≡ false
+takes_some n [] some = refl
+takes_some n (byte ∷ bytes) some = grind (arith, nat_tests)

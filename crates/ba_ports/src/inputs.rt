@@ -35,6 +35,7 @@ pub fn read_up_to<S: Source>(
     ensures end { OnOk result (IsAtEnd (S.left source.new)) }
     ensures long { (result ≡ Err InputFault.Limit) → IfSome (S.left source.old) (λ input. limit < length input) }
     ensures cause { (result ≡ Err InputFault.Read) → Rose (S.faults source.old) (S.faults source.new) }
+    ensures stayed { OnOk result (S.faults source.new ≡ S.faults source.old) }
     ensures later { S.faults source.old ≤ S.faults source.new }
     ensures bounded { TakesAtMost (S.left source.old) (S.left source.new) (limit + 1) }
 {
@@ -57,6 +58,7 @@ fn read_by<S: Source>(
     ensures end { OnOk result (IsAtEnd (S.left source.new)) }
     ensures long { (result ≡ Err InputFault.Limit) → IfSome (S.left source.old) (λ input. limit < length input) }
     ensures cause { (result ≡ Err InputFault.Read) → Rose (S.faults source.old) (S.faults source.new) }
+    ensures stayed { OnOk result (S.faults source.new ≡ S.faults source.old) }
     ensures later { S.faults source.old ≤ S.faults source.new }
     ensures bounded { TakesAtMost (S.left source.old) (S.left source.new) (limit + 1) }
 {
@@ -87,6 +89,7 @@ fn read_block<S: Source>(
     ensures few { OnErr result (TakesAtMost (S.left source.old) (S.left source.new) (length room.old)) }
     ensures limit { IfErr result (λ fault. fault ≡ InputFault.Limit → ⊥) }
     ensures cause { (result ≡ Err InputFault.Read) → Rose (S.faults source.old) (S.faults source.new) }
+    ensures stayed { OnOk result (S.faults source.new ≡ S.faults source.old) }
     ensures later { S.faults source.old ≤ S.faults source.new }
 {
     let Ok(count) = source.read(room) else {

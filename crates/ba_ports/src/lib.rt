@@ -20,7 +20,7 @@ pub use failures::Failed;
 pub use images::Image;
 pub use inputs::{InputFault, read_up_to};
 pub use links::Link;
-pub use outputs::{NotWritten, write_all};
+pub use outputs::{NotWritten, send_all, write_all};
 pub use requests::{Call, Request};
 pub use sinks::Sink;
 pub use sources::Source;

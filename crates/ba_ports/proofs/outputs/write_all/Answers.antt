@@ -1,6 +1,6 @@
-use Rattle.std.proofs.Common.{◌+◌, ◌-◌, ◌≤◌, length, drop, length-take, arith}
+use Rattle.std.proofs.Common.{◌+◌, ◌-◌, ◌≤◌, ◌∙◌, length, drop, length-take, arith}
 use Rattle.std.proofs.KnownBytes.{Appends-trans}
-use Rattle.ba_ports.proofs.Due.{keeps_appends, part_so_far, longer_front}
+use Rattle.ba_ports.proofs.Due.{keeps_appends, part_so_far, longer_front, takes_some}
 use Rattle.ba_ports.proofs.outputs.write_all.Goals as goal
 
 pub returns-in-Ok-eq0-clause-part : goal.returns-in-Ok-eq0-clause-part
@@ -18,7 +18,7 @@ pieces-preserved g c =
       front = rw (← longer_front c.args.bytes.now c.pieces.at c.in-Ok.count within)
           (Appends-trans (g.K.Sink.written c.args.sink.now) (g.K.Sink.written c.pieces.sink)
           (g.K.Sink.written c.write.new.self) _ _ c.pieces.invariant.front c.in-Ok.ensures.bytes);
-      later = omega (arith, c.in-Ok.ensures.cause.later);
+      stayed = c.in-Ok.ensures.cause.stayed (takes_some c.in-Ok.count _ c.in-Ok.count-test.1) ∙ c.pieces.invariant.stayed;
     }
 
 pub returns-in-Err-clause-part : goal.returns-in-Err-clause-part
