@@ -2,7 +2,7 @@
 ghost use Rattle.std.specs.Prelude.{◌≡◌, ◌≤◌, [], length, false, IsErr, IfOk, OnErr, Some, Ok};
 ghost use Rattle.std.specs.Io.{WritesAtMost};
 ghost use Rattle.std.specs.Io.KnownBytes.{WriteAppends};
-ghost use Rattle.ba_ports.specs.Causes.{HasCause};
+ghost use Rattle.ba_ports.specs.Causes.{CountsFailedWrites};
 ghost use Rattle.ba_ports.specs.Counts.{FailsNext};
 ghost use Rattle.ba_ports_memory.specs.OutState.{taken_count, after_write, after_failed_write};
 ghost use Rattle.ba_ports.specs.Streams.{takes_nothing};
@@ -81,7 +81,7 @@ impl Sink for Out {
         ensures bound { WritesAtMost result piece.now }
         ensures bytes { WriteAppends (Some self.old.bytes) (Some self.new.bytes) result piece.now }
         ensures nothing { self.new.took_nothing ≡ takes_nothing result piece.now }
-        ensures cause { HasCause self.old.faults self.new.faults result }
+        ensures cause { CountsFailedWrites self.old.faults self.new.faults (takes_nothing result piece.now) result }
 
         // What this sink says beyond the trait.
         ensures fails { FailsNext self.old.fails self.old.calls → IsErr result }

@@ -2,7 +2,7 @@
 ghost use Rattle.std.specs.Prelude.{◌≡◌, true, Some};
 ghost use Rattle.std.specs.Io.{ReadsAtMost, WritesAtMost};
 ghost use Rattle.std.specs.Io.KnownBytes.{ReadConsumes, WriteAppends};
-ghost use Rattle.ba_ports.specs.Causes.{HasCause, Rose};
+ghost use Rattle.ba_ports.specs.Causes.{CountsFailedWrites, CountsFailures, Rose};
 ghost use Rattle.ba_ports.specs.Streams.{takes_nothing};
 ghost use Rattle.ba_ports_memory.specs.ScriptLinkState.{faults_after_read, faults_after_write};
 
@@ -63,7 +63,7 @@ impl Link for ScriptLink {
         ensures bytes { ReadConsumes (Some self.old.input.left) (Some self.new.input.left)
             result room.new }
         ensures others { self.new.output ≡ self.old.output }
-        ensures cause { HasCause self.old.faults self.new.faults result }
+        ensures cause { CountsFailures self.old.faults self.new.faults result }
 
         // What this link says beyond the trait.
         ensures count { self.new.faults ≡ faults_after_read self.old.faults result }
@@ -84,7 +84,7 @@ impl Link for ScriptLink {
         ensures others { self.new.input ≡ self.old.input }
         ensures nothing { takes_nothing result piece.now ≡ true
             → Rose self.old.faults self.new.faults }
-        ensures cause { HasCause self.old.faults self.new.faults result }
+        ensures cause { CountsFailedWrites self.old.faults self.new.faults (takes_nothing result piece.now) result }
 
         // What this link says beyond the trait.
         ensures count { self.new.faults ≡ faults_after_write self.old.faults result piece.now }

@@ -2,7 +2,7 @@
 ghost use Rattle.std.specs.Prelude.{◌≡◌, ◌↔◌, ◌≤◌, ◌++◌, length, take, drop, IsErr, IfOk, OnErr, Some};
 ghost use Rattle.std.specs.Io.{ReadsAtMost};
 ghost use Rattle.std.specs.Io.KnownBytes.{ReadConsumes};
-ghost use Rattle.ba_ports.specs.Causes.{HasCause};
+ghost use Rattle.ba_ports.specs.Causes.{CountsFailures};
 ghost use Rattle.ba_ports.specs.Counts.{FailsNext};
 ghost use Rattle.ba_ports_memory.specs.TextState.{given_count, after_read, after_failed_read};
 
@@ -67,7 +67,7 @@ impl Source for Text {
     fn read(&mut self, room: &mut [u8]) -> Result<usize, Failed>
         ensures bound { ReadsAtMost result room.new }
         ensures bytes { ReadConsumes (Some self.old.left) (Some self.new.left) result room.new }
-        ensures cause { HasCause self.old.faults self.new.faults result }
+        ensures cause { CountsFailures self.old.faults self.new.faults result }
 
         // What this source says beyond the trait.
         ensures fails { IsErr result ↔ FailsNext self.old.fails self.old.calls }
