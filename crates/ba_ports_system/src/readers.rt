@@ -2,7 +2,7 @@
 ghost use Rattle.std.specs.Prelude.{◌≡◌, OnOk, OnErr};
 ghost use Rattle.std.specs.Io.{ReadsAtMost};
 ghost use Rattle.std.specs.Io.KnownBytes.{ReadConsumes};
-ghost use Rattle.ba_ports.specs.Causes.{HasCause};
+ghost use Rattle.ba_ports.specs.Causes.{CountsFailures};
 ghost use Rattle.ba_ports.specs.Counts.{risen};
 
 use ba_ports::{Failed, Source};
@@ -42,7 +42,7 @@ impl<R: Read> Source for ReadSource<R> {
         ensures bound { ReadsAtMost result room.new }
         ensures bytes { ReadConsumes (R.remaining self.old.reader) (R.remaining self.new.reader)
             result room.new }
-        ensures cause { HasCause self.old.faults self.new.faults result }
+        ensures cause { CountsFailures self.old.faults self.new.faults result }
 
         // What this source says beyond the trait.
         ensures ok { OnOk result (self.new.faults ≡ self.old.faults) }

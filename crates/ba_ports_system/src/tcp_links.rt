@@ -3,7 +3,7 @@
 ghost use Rattle.std.specs.Prelude.{◌≡◌, ◌≤◌, None, Ok, IfOk, OnErr, true, false};
 ghost use Rattle.std.specs.Io.{ReadsAtMost, WritesAtMost};
 ghost use Rattle.std.specs.Io.KnownBytes.{ReadConsumes, WriteAppends};
-ghost use Rattle.ba_ports.specs.Causes.{HasCause, Rose};
+ghost use Rattle.ba_ports.specs.Causes.{CountsFailedWrites, CountsFailures, Rose};
 ghost use Rattle.ba_ports.specs.Counts.{risen};
 ghost use Rattle.ba_ports.specs.Streams.{takes_nothing};
 
@@ -52,7 +52,7 @@ impl<S: Read + Write + OpenStream + Drop> Link for TcpLink<S> {
         ensures bound { ReadsAtMost result room.new }
         ensures bytes { ReadConsumes None None result room.new }
         ensures others { Unit {0} }
-        ensures cause { HasCause self.old self.new result }
+        ensures cause { CountsFailures self.old self.new result }
 
         // What this link says beyond the trait.
         ensures ok { IfOk result (λ n. self.new ≡ self.old) }
@@ -72,7 +72,7 @@ impl<S: Read + Write + OpenStream + Drop> Link for TcpLink<S> {
         ensures bytes { WriteAppends None None result piece.now }
         ensures others { Unit {0} }
         ensures nothing { takes_nothing result piece.now ≡ true → Rose self.old self.new }
-        ensures cause { HasCause self.old self.new result }
+        ensures cause { CountsFailedWrites self.old self.new (takes_nothing result piece.now) result }
 
         // What this link says beyond the trait.
         ensures ok { IfOk result (λ n. takes_nothing result piece.now ≡ false → self.new ≡ self.old) }

@@ -2,7 +2,7 @@
 ghost use Rattle.std.specs.Prelude.{◌≡◌, false, OnOk, OnErr};
 ghost use Rattle.std.specs.Io.{WritesAtMost};
 ghost use Rattle.std.specs.Io.KnownBytes.{WriteAppends};
-ghost use Rattle.ba_ports.specs.Causes.{HasCause};
+ghost use Rattle.ba_ports.specs.Causes.{CountsFailedWrites};
 ghost use Rattle.ba_ports.specs.Counts.{risen};
 ghost use Rattle.ba_ports.specs.Streams.{takes_nothing};
 
@@ -56,7 +56,7 @@ impl<W: Write> Sink for WriteSink<W> {
         ensures bytes { WriteAppends (W.contents self.old.writer) (W.contents self.new.writer)
             result piece.now }
         ensures nothing { self.new.took_nothing ≡ takes_nothing result piece.now }
-        ensures cause { HasCause self.old.faults self.new.faults result }
+        ensures cause { CountsFailedWrites self.old.faults self.new.faults (takes_nothing result piece.now) result }
 
         // What this sink says beyond the trait.
         ensures ok { OnOk result (self.new.faults ≡ self.old.faults) }
