@@ -1,5 +1,5 @@
 -- What was found after one more read; for the clause `found` of fetch_by.
-use Rattle.std.proofs.Common.{◌≡◌, ℕ, ◌≤◌, List, [], ◌∷◌, ◌++◌, length, take, Option, None, Some, Result, Err, refl, sym, ◌∙◌, subst, arith}
+use Rattle.std.proofs.Common.{◌≡◌, ℕ, ◌≤◌, List, [], ◌∷◌, ◌++◌, length, take, Option, None, Some, Result, Ok, Err, refl, sym, ◌∙◌, subst, arith}
 use Rattle.std.proofs.Common.{append-nil}
 use Rattle.std.specs.Io.KnownBytes.{Consumes, Keeps}
 use Rattle.std.proofs.Common.{◌⊎◌, inl, inr}
@@ -65,3 +65,7 @@ pub found_so : (heading : Heading) (shown : Shown) (all : List ℕ) (n : ℕ) (l
 found_so heading Whole all n left within shows = (refl, within, shows)
 found_so heading (Bad place) all n left within shows = (n, within, shows)
 found_so heading Large all n left within shows = (n, within, shows)
+
+-- a result isn't the fault of a read
+pub no_read_fault : {T : Type 0} (x : T) → ◌≡◌ {A = Result T HttpFault} (Ok x) (Err Read) → ⊥
+no_read_fault x is = cc

@@ -29,6 +29,7 @@ pub fn read_block<K: Link>(
     ensures written { Keeps (K.written link.old) (K.written link.new) }
     ensures cause { (result ≡ Err HttpFault.Read) → Rose (K.faults link.old) (K.faults link.new) }
     ensures later { K.faults link.old ≤ K.faults link.new }
+    ensures stayed { (result ≡ Err HttpFault.Read → ⊥) → K.faults link.new ≡ K.faults link.old }
 {
     let Ok(count) = link.read(block) else {
         return Err(HttpFault::Read);

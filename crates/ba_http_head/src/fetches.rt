@@ -27,6 +27,7 @@ pub fn fetch<K: Link>(alloc: Global, link: &mut K, heading: Heading) -> Result<F
     ensures written { Keeps (K.written link.old) (K.written link.new) }
     ensures cause { (result ≡ Err HttpFault.Read) → Rose (K.faults link.old) (K.faults link.new) }
     ensures later { K.faults link.old ≤ K.faults link.new }
+    ensures stayed { (result ≡ Err HttpFault.Read → ⊥) → K.faults link.new ≡ K.faults link.old }
 {
     match vec![in alloc; 0u8; BLOCK] {
         Ok(mut block) => fetch_by(alloc, link, heading, block.as_mut_slice()),
@@ -47,6 +48,7 @@ fn fetch_by<K: Link>(
     ensures written { Keeps (K.written link.old) (K.written link.new) }
     ensures cause { (result ≡ Err HttpFault.Read) → Rose (K.faults link.old) (K.faults link.new) }
     ensures later { K.faults link.old ≤ K.faults link.new }
+    ensures stayed { (result ≡ Err HttpFault.Read → ⊥) → K.faults link.new ≡ K.faults link.old }
 {
     let mut hand = Octets::new(alloc);
     let mut at = 0;

@@ -44,6 +44,7 @@ pub fn read_head<K: Link>(alloc: Global, link: &mut K) -> Result<Head, HttpFault
     ensures written { Keeps (K.written link.old) (K.written link.new) }
     ensures cause { (result ≡ Err HttpFault.Read) → Rose (K.faults link.old) (K.faults link.new) }
     ensures later { K.faults link.old ≤ K.faults link.new }
+    ensures stayed { (result ≡ Err HttpFault.Read → ⊥) → K.faults link.new ≡ K.faults link.old }
 {
     let found = match fetch(alloc, link, Heading::Request) {
         Ok(found) => found,
@@ -60,6 +61,7 @@ pub fn read_reply_head<K: Link>(alloc: Global, link: &mut K) -> Result<ReplyHead
     ensures written { Keeps (K.written link.old) (K.written link.new) }
     ensures cause { (result ≡ Err HttpFault.Read) → Rose (K.faults link.old) (K.faults link.new) }
     ensures later { K.faults link.old ≤ K.faults link.new }
+    ensures stayed { (result ≡ Err HttpFault.Read → ⊥) → K.faults link.new ≡ K.faults link.old }
 {
     let found = match fetch(alloc, link, Heading::Reply) {
         Ok(found) => found,

@@ -5,7 +5,7 @@ use Rattle.ba_http_head.specs.HeadLines.{IsOpen}
 use Rattle.std.proofs.KnownBytes.{Consumes-trans}
 use Rattle.ba_http_head.specs.Looks.{IsLooked, Shows}
 use Rattle.ba_http_head.specs.inside.Fetches.{Fetches, ended}
-use Rattle.ba_http_head.proofs.Steps.{fetched, nothing, kept, kept_on, empty, not_read, found_so}
+use Rattle.ba_http_head.proofs.Steps.{fetched, nothing, kept, kept_on, empty, not_read, found_so, no_read_fault}
 use Rattle.ba_http_head.proofs.LookLemmas.{begun, open_short}
 use Rattle.ba_http_head.proofs.fetches.fetch_by.Goals as goal
 
@@ -20,7 +20,7 @@ reading-init g c =
       room = refl;
       block = c.requires;
       written = kept (g.K.Link.written c.args.link.now);
-      later = omega arith;
+      stayed = refl;
     }
 
 pub returns-in-Ok-eq0-clause-found : goal.returns-in-Ok-eq0-clause-found
@@ -65,7 +65,7 @@ reading-preserved g c =
       block = search rules;
       written = kept_on (g.K.Link.written c.args.link.now) (g.K.Link.written c.reading.link)
           (g.K.Link.written c.read_block.new.link) c.reading.invariant.written w;
-      later = omega (arith, c.reading.invariant.later, c.in-Ok.ensures.later);
+      stayed = c.in-Ok.ensures.stayed (no_read_fault _) ∙ c.reading.invariant.stayed;
     }
 
 pub returns-in-Some-clause-found : goal.returns-in-Some-clause-found
