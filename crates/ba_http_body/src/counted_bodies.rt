@@ -23,6 +23,7 @@ pub fn read_counted<K: Link, T: Taker>(
     ensures written { Keeps (K.written link.old) (K.written link.new) }
     ensures cause { (result ≡ Err HttpFault.Read) → Rose (K.faults link.old) (K.faults link.new) }
     ensures later { K.faults link.old ≤ K.faults link.new }
+    ensures stayed { (result ≡ Err HttpFault.Read → ⊥) → K.faults link.new ≡ K.faults link.old }
 {
     let first = count.min(hand.len() as u64);
     match taker.take(&hand[..first as usize]) {
@@ -48,6 +49,7 @@ fn count_by<K: Link, T: Taker>(
     ensures written { Keeps (K.written link.old) (K.written link.new) }
     ensures cause { (result ≡ Err HttpFault.Read) → Rose (K.faults link.old) (K.faults link.new) }
     ensures later { K.faults link.old ≤ K.faults link.new }
+    ensures stayed { (result ≡ Err HttpFault.Read → ⊥) → K.faults link.new ≡ K.faults link.old }
 {
     let mut left = count;
     'reading: while left > 0 {
@@ -79,6 +81,7 @@ pub fn give_block<K: Link, T: Taker>(
     ensures written { Keeps (K.written link.old) (K.written link.new) }
     ensures cause { (result ≡ Err HttpFault.Read) → Rose (K.faults link.old) (K.faults link.new) }
     ensures later { K.faults link.old ≤ K.faults link.new }
+    ensures stayed { (result ≡ Err HttpFault.Read → ⊥) → K.faults link.new ≡ K.faults link.old }
 {
     let Ok(size) = link.read(block) else {
         return Err(HttpFault::Read);

@@ -1,5 +1,6 @@
-use Rattle.std.proofs.Common.{◌<◌, [], ◌++◌, length, length-append, arith, refl, ap, Err, inl, rules}
+use Rattle.std.proofs.Common.{◌<◌, [], ◌++◌, length, length-append, arith, refl, ap, Err, inl, rules, ◌∙◌}
 use Rattle.std.proofs.KnownBytes.{Consumes-trans, Consumes-nil, Keeps-refl, Keeps-trans}
+use Rattle.ba_http_head.proofs.Steps.{no_read_fault}
 use Rattle.ba_http_body.proofs.Counting.{given_on, given_none, stops_on, not_given}
 use Rattle.ba_http_body.proofs.counted_bodies.count_by.Goals as goal
 
@@ -14,7 +15,7 @@ reading-init g c = record {
   );
   block = c.requires;
   written = Keeps-refl (g.K.Link.written c.args.link.now);
-  later = omega arith;
+  stayed = refl;
 }
 
 pub reading-preserved : goal.reading-preserved
@@ -35,7 +36,7 @@ reading-preserved g c =
       block = search rules;
       written = Keeps-trans (g.K.Link.written c.args.link.now) (g.K.Link.written c.reading.link)
           (g.K.Link.written c.give_block.new.link) c.reading.invariant.written c.in-Ok.ensures.written;
-      later = omega (arith, c.reading.invariant.later, c.in-Ok.ensures.later);
+      stayed = c.in-Ok.ensures.stayed (no_read_fault _) ∙ c.reading.invariant.stayed;
     }
 
 pub reading-smaller : goal.reading-smaller
