@@ -25,6 +25,7 @@ pub fn read_chunked<K: Link, T: Taker>(
     ensures written { Keeps (K.written link.old) (K.written link.new) }
     ensures cause { (result ≡ Err HttpFault.Read) → Rose (K.faults link.old) (K.faults link.new) }
     ensures later { K.faults link.old ≤ K.faults link.new }
+    ensures stayed { (result ≡ Err HttpFault.Read → ⊥) → K.faults link.new ≡ K.faults link.old }
 {
     let mut block = match vec![in alloc; 0u8; BLOCK] {
         Ok(block) => block,
@@ -62,6 +63,7 @@ fn chunks_by<K: Link, T: Taker>(
     ensures written { Keeps (K.written link.old) (K.written link.new) }
     ensures cause { (result ≡ Err HttpFault.Read) → Rose (K.faults link.old) (K.faults link.new) }
     ensures later { K.faults link.old ≤ K.faults link.new }
+    ensures stayed { (result ≡ Err HttpFault.Read → ⊥) → K.faults link.new ≡ K.faults link.old }
 {
     let mut chunks = from;
     'reading: loop {
@@ -98,6 +100,7 @@ fn read_some<K: Link>(link: &mut K, block: &mut [u8]) -> Result<usize, HttpFault
     ensures written { Keeps (K.written link.old) (K.written link.new) }
     ensures cause { (result ≡ Err HttpFault.Read) → Rose (K.faults link.old) (K.faults link.new) }
     ensures later { K.faults link.old ≤ K.faults link.new }
+    ensures stayed { (result ≡ Err HttpFault.Read → ⊥) → K.faults link.new ≡ K.faults link.old }
 {
     match link.read(block) {
         Ok(size) => Ok(size),

@@ -22,6 +22,7 @@ pub fn read_trailer<K: Link>(
     ensures written { Keeps (K.written link.old) (K.written link.new) }
     ensures cause { (result ≡ Err HttpFault.Read) → Rose (K.faults link.old) (K.faults link.new) }
     ensures later { K.faults link.old ≤ K.faults link.new }
+    ensures stayed { (result ≡ Err HttpFault.Read → ⊥) → K.faults link.new ≡ K.faults link.old }
 {
     let mut bytes = hand;
     let mut at = 0;

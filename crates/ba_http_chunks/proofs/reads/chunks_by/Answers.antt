@@ -1,6 +1,7 @@
-use Rattle.std.proofs.Common.{[], ◌++◌, length, take, Ok, Err, sym, ap, append-nil, ◌∙◌, subst, arith}
+use Rattle.std.proofs.Common.{[], ◌++◌, length, take, Ok, Err, refl, sym, ap, append-nil, ◌∙◌, subst, arith}
 use Rattle.std.proofs.KnownBytes.{Consumes-trans, Consumes-nil, Keeps-refl, Keeps-trans}
 use Rattle.ba_http_head.specs.declared.faults.HttpFault.TheVariants.{Memory}
+use Rattle.ba_http_head.proofs.Steps.{no_read_fault}
 use Rattle.ba_http_chunks.specs.inside.Progress.{Stands, Feeds}
 use Rattle.ba_http_chunks.proofs.Composing.{gives_none}
 use Rattle.ba_http_chunks.specs.Chunked.{Unchunks}
@@ -21,7 +22,7 @@ reading-init g c = record {
   );
   block = c.requires.block;
   written = Keeps-refl (g.K.Link.written c.args.link.now);
-  later = omega arith;
+  stayed = refl;
 }
 
 pub returns-in-Ok-eq0-clause-body : goal.returns-in-Ok-eq0-clause-body
@@ -102,7 +103,7 @@ reading-preserved g c =
       block = c.in-Ok.ensures.block ∙ c.reading.invariant.block;
       written = Keeps-trans (g.K.Link.written c.args.link.now) (g.K.Link.written c.reading.link) (g.K.Link.written c.read_some.new.link)
           c.reading.invariant.written c.in-Ok.ensures.written;
-      later = omega (arith, c.reading.invariant.later, c.in-Ok.ensures.later);
+      stayed = c.in-Ok.ensures.stayed (no_read_fault _) ∙ c.reading.invariant.stayed;
     }
 
 pub reading-smaller : goal.reading-smaller

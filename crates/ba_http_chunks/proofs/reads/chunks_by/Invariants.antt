@@ -11,7 +11,7 @@ invariant-reading g l = record {
       × Stands l.chunks (fed ++ taken) (body ++ more) × Gives (g.T.Taker.stands l.initial.taker) (g.T.Taker.stands l.taker) more;
   block : length l.block ≡ BLOCK;
   written : Keeps (g.K.Link.written l.initial.link) (g.K.Link.written l.link);
-  later : g.K.Link.faults l.initial.link ≤ g.K.Link.faults l.link;
+  stayed : g.K.Link.faults l.link ≡ g.K.Link.faults l.initial.link;
 }
 
 abbrev pub decreases-reading : goal.decreases-reading

@@ -5,7 +5,7 @@ use Rattle.ba_http_head.specs.declared.faults.HttpFault.TheVariants.{Truncated}
 use Rattle.ba_http_head.specs.declared.headings.Heading.TheVariants.{Trailer}
 use Rattle.ba_http_head.specs.HeadLines.{IsOpen}
 use Rattle.ba_http_head.specs.Looks.{IsLooked, Shows}
-use Rattle.ba_http_head.proofs.Steps.{empty}
+use Rattle.ba_http_head.proofs.Steps.{empty, no_read_fault}
 use Rattle.ba_http_head.proofs.LookLemmas.{begun, open_short}
 use Rattle.ba_http_chunks.specs.inside.Trailers.{answer_to, TrailerSo, ReadsTrailer}
 use Rattle.ba_http_chunks.proofs.TrailerSteps.{trailer_on, trailer_unread, trailer_shown, none_taken, looked_whole, stops_after}
@@ -19,7 +19,7 @@ reading-init g c = record {
   room = refl;
   block = c.requires;
   written = Keeps-refl (g.K.Link.written c.args.link.now);
-  later = omega arith;
+  stayed = refl;
 }
 
 pub returns-in-Some-clause-trailer : goal.returns-in-Some-clause-trailer
@@ -89,5 +89,5 @@ reading-preserved g c =
       block = search rules;
       written = Keeps-trans (g.K.Link.written c.args.link.now) (g.K.Link.written c.reading.link) (g.K.Link.written c.read_block.new.link)
           c.reading.invariant.written c.in-Ok.ensures.written;
-      later = omega (arith, c.reading.invariant.later, c.in-Ok.ensures.later);
+      stayed = c.in-Ok.ensures.stayed (no_read_fault _) ∙ c.reading.invariant.stayed;
     }

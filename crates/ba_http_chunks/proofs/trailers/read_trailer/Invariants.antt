@@ -16,7 +16,7 @@ invariant-reading g l = record {
   room : length l.room ≡ MOST_FIELDS;
   block : length l.block ≡ BLOCK;
   written : Keeps (g.K.Link.written l.initial.link) (g.K.Link.written l.link);
-  later : g.K.Link.faults l.initial.link ≤ g.K.Link.faults l.link;
+  stayed : g.K.Link.faults l.link ≡ g.K.Link.faults l.initial.link;
 }
 
 abbrev pub decreases-reading : goal.decreases-reading
