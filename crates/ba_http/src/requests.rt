@@ -25,6 +25,7 @@ pub fn read_request<K: Link>(alloc: Global, link: &mut K) -> Result<Request, Htt
     ensures written { Keeps (K.written link.old) (K.written link.new) }
     ensures cause { (result ≡ Err HttpFault.Read) → Rose (K.faults link.old) (K.faults link.new) }
     ensures later { K.faults link.old ≤ K.faults link.new }
+    ensures stayed { (result ≡ Err HttpFault.Read → ⊥) → K.faults link.new ≡ K.faults link.old }
 {
     let head = match read_head(alloc, link) {
         Ok(head) => head,
