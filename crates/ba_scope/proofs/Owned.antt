@@ -14,7 +14,7 @@ use Rattle.ba_scope.specs.Scope.{ScopeState}
 own_state : (a : Above) (e : End) → end_fits a e ≡ true → has_own_state e ≡ true
 own_state a e h =
     let states : Bool = is_end_state e.protocol e.state && verdict_fits_state e.state e.verdict in
-    let seen : Bool = verdict_fits_scope a.up a.kind a.verdict e.verdict None && state_fits_above a.up e.state in
+    let seen : Bool = verdict_fits_scope a.up a.kind a.verdict e.verdict None && state_fits_above a.up e.verdict e.state in
     let both = and_parts states seen h in
     (and_parts (is_end_state e.protocol e.state) (verdict_fits_state e.state e.verdict) both.0).0
 

@@ -52,19 +52,20 @@ abbrev pub is_below_completed : CState → Bool
 is_below_completed = end_among (end.Completed ∷ end.Closing ∷ end.Ended Closed ∷ end.Exiting ∷ end.Ended Exited ∷ [])
 
 -- Below a participant that is at work, or undoes its work, an end may be in any state; below one that is completed
--- or closes, in those that go with it; below one that isn't enrolled there is none; below each other it is Ended.
-abbrev pub state_fits_above : Option PState → CState → Bool
-state_fits_above None s = true
-state_fits_above (Some part.Registering) s = false
-state_fits_above (Some (part.Ended Refused)) s = false
-state_fits_above (Some part.Active) s = true
-state_fits_above (Some part.Completing) s = true
-state_fits_above (Some part.Canceling) s = true
-state_fits_above (Some part.Compensating) s = true
-state_fits_above (Some part.Completed) s = is_below_completed s
-state_fits_above (Some part.Closing) s = is_below_completed s
-state_fits_above (Some (part.Ended Closed)) s = is_below_completed s && is_ended_state s
-state_fits_above (Some p) s = is_ended_state s
+-- or closes, in those that go with it; below one that isn't enrolled there is none; below each other it is Ended. The
+-- second value is the end's verdict.
+abbrev pub state_fits_above : Option PState → Option Verdict → CState → Bool
+state_fits_above None v s = true
+state_fits_above (Some part.Registering) v s = false
+state_fits_above (Some (part.Ended Refused)) v s = false
+state_fits_above (Some part.Active) v s = true
+state_fits_above (Some part.Completing) v s = true
+state_fits_above (Some part.Canceling) v s = true
+state_fits_above (Some part.Compensating) v s = true
+state_fits_above (Some part.Completed) v s = is_below_completed s
+state_fits_above (Some part.Closing) v s = is_below_completed s
+state_fits_above (Some (part.Ended Closed)) v s = is_below_completed s && is_ended_state s
+state_fits_above (Some p) v s = is_ended_state s
 
 -- ---- the verdict of a scope that goes with the state of its upward part
 
@@ -93,7 +94,7 @@ verdict_goes a = verdict_fits_above a.up a.kind a.verdict
 abbrev pub goes_with : Above → Protocol → CState → Option Verdict → Option Verdict → Bool
 goes_with a protocol s v choice =
     (is_end_state protocol s && verdict_fits_state s v)
-    && (verdict_fits_scope a.up a.kind a.verdict v choice && state_fits_above a.up s)
+    && (verdict_fits_scope a.up a.kind a.verdict v choice && state_fits_above a.up v s)
 
 abbrev pub end_fits : Above → End → Bool
 end_fits a e = goes_with a e.protocol e.state e.verdict (own_choice e)
