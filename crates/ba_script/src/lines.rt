@@ -1,7 +1,7 @@
 //! The lines of a source, which is read block by block.
 ghost use Rattle.std.specs.Prelude.{◌≡◌, ◌+◌, ◌-◌, ◌<◌, ◌≤◌, [], length, take, drop, slice_range, IfOk, IfSome, IfNone, true, false};
 ghost use Rattle.std.specs.Io.KnownBytes.{IsAtEnd, Keeps, prepend_known};
-ghost use Rattle.ba_ports.specs.Causes.{HasCause};
+ghost use Rattle.ba_ports.specs.Causes.{CountsFailures};
 ghost use Rattle.ba_script.specs.inside.Lines.{HasNoFeed, EndsLine, IsNextLine, ReadsAfter};
 ghost use Rattle.ba_script.specs.Scripts.{lookahead};
 
@@ -77,7 +77,7 @@ impl Lines {
         ensures within { IfOk result (λ found. IfSome found (λ n. n ≤ length self.new)) }
         ensures next { IfOk result (λ found. IfSome found (IsNextLine self.new (S.left source.new))) }
         ensures end { IfOk result (λ found. IfNone found ((self.new ≡ []) × IsAtEnd (S.left source.new))) }
-        ensures cause { HasCause (S.faults source.old) (S.faults source.new) result }
+        ensures cause { CountsFailures (S.faults source.old) (S.faults source.new) result }
     {
         'reading: loop {
             if let Some(count) = line_in(self.bytes()) {
@@ -95,7 +95,7 @@ impl Lines {
         ensures few { length self.new ≤ lookahead }
         ensures end { IfOk result (λ ended. ended ≡ true → (self.new ≡ []) × IsAtEnd (S.left source.new)) }
         ensures more { IfOk result (λ ended. ended ≡ false → 0 < length self.new) }
-        ensures cause { HasCause (S.faults source.old) (S.faults source.new) result }
+        ensures cause { CountsFailures (S.faults source.old) (S.faults source.new) result }
     {
         if !self.bytes().is_empty() {
             return Ok(false);
@@ -119,7 +119,7 @@ impl Lines {
         ensures few { length self.new ≤ lookahead }
         ensures grown { IfOk result (λ n. length self.new ≡ length self.old + n) }
         ensures ended { IfOk result (λ n. n ≡ 0 → (self.new ≡ self.old) × IsAtEnd (S.left source.new)) }
-        ensures cause { HasCause (S.faults source.old) (S.faults source.new) result }
+        ensures cause { CountsFailures (S.faults source.old) (S.faults source.new) result }
     {
         let (at, end) = (self.at, self.end);
         self.at = 0;
@@ -142,7 +142,7 @@ fn read_block<S: Source>(
     requires space { end - at + BLOCK ≤ length room.old }
     ensures kept { take (end - at) room.new ≡ slice_range room.old at end }
     ensures bytes { ReadsAfter (S.left source.old) (S.left source.new) (end - at) room.new result }
-    ensures cause { HasCause (S.faults source.old) (S.faults source.new) result }
+    ensures cause { CountsFailures (S.faults source.old) (S.faults source.new) result }
 {
     compact(room, at, end);
     read_after(source, room, end - at)
@@ -162,7 +162,7 @@ fn read_after<S: Source>(source: &mut S, room: &mut [u8], kept: usize) -> Result
     requires { kept + BLOCK ≤ length room.old }
     ensures kept { take kept room.new ≡ take kept room.old }
     ensures bytes { ReadsAfter (S.left source.old) (S.left source.new) kept room.new result }
-    ensures cause { HasCause (S.faults source.old) (S.faults source.new) result }
+    ensures cause { CountsFailures (S.faults source.old) (S.faults source.new) result }
 {
     source.read(&mut room[kept..kept + BLOCK])
 }

@@ -72,9 +72,10 @@ pub fn read_script<S: Source>(alloc: Global, source: &mut S) -> Result<Script, S
     ensures end { OnOk result (IsAtEnd (S.left source.new)) }
     ensures fault { IfErr result (λ fault. IfSome (S.left source.old) (λ text. ExplainsFault text fault)) }
 
-    // A read fails only where the source counts a fault, and its count never falls.
+    // A read fails only where the source counts a fault, and its count rises at no other answer.
     ensures cause { (result ≡ Err ScriptFault.Read) → Rose (S.faults source.old) (S.faults source.new) }
     ensures later { S.faults source.old ≤ S.faults source.new }
+    ensures stayed { (result ≡ Err ScriptFault.Read → ⊥) → S.faults source.new ≡ S.faults source.old }
 
     // Little is read past what decides the answer.
     ensures reads { IfErr result (λ fault. IfSome (S.left source.old)

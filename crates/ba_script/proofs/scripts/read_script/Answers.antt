@@ -1,4 +1,4 @@
-use Rattle.std.proofs.Common.{◌+◌, ◌-◌, rules, arith}
+use Rattle.std.proofs.Common.{◌+◌, ◌-◌, Err, ap, ◌∙◌, rules, arith}
 use Rattle.std.proofs.lemmas.Result.{err_from_is_err_and}
 use Rattle.ba_script.proofs.Streaming.{StandsAt, stands_on, advance_of, finished_of, stopped_of, too_many_of, taken_of, bounded_of}
 use Rattle.ba_script.proofs.Streaming.{bounded_for}
@@ -17,6 +17,11 @@ ended_at : (g : Over) (c : After-is_at_end g)
     → StandsAt (g.S.Source.left c.args.source.now)
     (g.S.Source.left c.is_at_end.new.source) c.is_at_end.new.self c.lines.form c.lines.read c.lines.pairs c.lines.worlds
 ended_at g c = stands_on _ _ _ _ _ _ _ _ _ c.lines.invariant.stands c.is_at_end.ensures.kept c.is_at_end.ensures.few
+
+pub returns-in_err-count-clause-stayed : goal.returns-in_err-count-clause-stayed
+returns-in_err-count-clause-stayed g c other =
+    let fault = err_from_is_err_and c.from_residual-in_err-count.result c.from_residual-in_err-count.ensures.1 in
+    absurd (other (fault.1 ∙ ap Err fault.2))
 
 pub returns-in_err-count-clause-reads : goal.returns-in_err-count-clause-reads
 returns-in_err-count-clause-reads g c =
@@ -69,10 +74,15 @@ lines-preserved g c =
     let next = rw c.in-Some.is at c.in_ok-count.ensures.next in
     let says = rw c.first.ensures at c.in-Ok.ensures.ok in
     record {
-      later = search rules;
+      stayed = c.in_ok-count.ensures.cause.stayed ∙ c.lines.invariant.stayed;
       stands = rw (c.pass.ensures, c.form_after-form.ensures, c.in_ok-add.ensures.pairs, c.in_ok-add.ensures.worlds)
           (advance_of _ _ _ _ _ _ _ c.in-Some.count c.in-Ok.reading at next says);
     }
+
+pub returns-in_err-is_at_end-clause-stayed : goal.returns-in_err-is_at_end-clause-stayed
+returns-in_err-is_at_end-clause-stayed g c other =
+    let fault = err_from_is_err_and c.from_residual-in_err-is_at_end.result c.from_residual-in_err-is_at_end.ensures.1 in
+    absurd (other (fault.1 ∙ ap Err fault.2))
 
 pub returns-in_err-is_at_end-clause-reads : goal.returns-in_err-is_at_end-clause-reads
 returns-in_err-is_at_end-clause-reads g c =
