@@ -3,6 +3,7 @@ pub mod Changed
 pub mod Enacted
 pub mod EndpointsKept
 pub mod FewObjects
+pub mod HistoryLemmas
 pub mod Hyphens
 pub mod InRange
 pub mod LettersSent
@@ -16,5 +17,6 @@ pub mod RecordsGive
 pub mod Reenacted
 pub mod Replayed
 pub mod SameNode
+pub mod ScopesGo
 pub mod StepsFit
 pub mod Unchanged

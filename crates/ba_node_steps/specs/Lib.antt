@@ -2,9 +2,11 @@ pub mod Addresses
 pub mod Endpoints
 pub mod Examples
 pub mod Fits
+pub mod Histories
 pub mod Lawful
 pub mod Letters
 pub mod Node
 pub mod Shown
 pub mod Steps
+pub mod Tellings
 pub mod Ticks

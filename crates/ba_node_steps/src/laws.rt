@@ -4,22 +4,28 @@ ghost use Rattle.std.specs.List.{AllByRecursion};
 ghost use Rattle.std.specs.Option.{option_map, option_to_list};
 ghost use Rattle.ba_core.specs.declared.codes.Code.TheVariants as code;
 ghost use Rattle.ba_core.specs.declared.identifiers.Id.{Id};
+ghost use Rattle.ba_core.specs.declared.notices.Notice.TheVariants as notice;
 ghost use Rattle.ba_core.specs.declared.protocols.Kind.TheVariants.{Atomic, Mixed};
+ghost use Rattle.ba_core.specs.declared.protocols.Verdict.{Verdict};
 ghost use Rattle.ba_core.specs.declared.protocols.Verdict.TheVariants.{Close, Undo};
 ghost use Rattle.ba_core.specs.declared.states.CState.TheVariants as end;
 ghost use Rattle.ba_core.specs.declared.states.How.TheVariants.{Failed};
 ghost use Rattle.ba_core.specs.declared.states.PState.TheVariants as part;
 ghost use Rattle.ba_message.specs.declared.messages.Letter.{Letter};
+ghost use Rattle.ba_message.specs.declared.messages.Message.TheVariants as message;
 ghost use Rattle.ba_record.specs.Coding.{InRange};
 ghost use Rattle.ba_record.specs.declared.records.Record.{Record};
+ghost use Rattle.ba_scope.specs.Scope.{ScopeState};
+ghost use Rattle.ba_scope_ends.specs.declared.ends.End.{End};
 ghost use Rattle.ba_core.specs.declared.refusals.TheConstants.{ALREADY_DECIDED, NOT_READY};
-ghost use Rattle.ba_node_steps.specs.Addresses.{HasText, coordinator_of, participant_of, registration_of};
+ghost use Rattle.ba_node_steps.specs.Addresses.{HasText, coordinator_of, participant_of, registration_of, sender_of};
 ghost use Rattle.ba_node_steps.specs.Endpoints.{AllReachable, GivesFit};
 ghost use Rattle.ba_node_steps.specs.Examples.{node_after, after_records, all_written, child_is_made, fails_below, first_base, first_completes, first_node, object, own_choices, register_below, register_of, reply_to, second_exits, second_node, shown_ends, shown_scopes};
 ghost use Rattle.ba_node_steps.specs.Fits.{HasSpareCounters, NodeFits};
+ghost use Rattle.ba_node_steps.specs.Histories.{HadCompleted, Happening, HasCounters, HasEndAt, HasEndVerdict, HasOneWord, HasScopeVerdict, IsTold, TellsItsVerdict, consequence, letters_of, node_then, states_of, word_in};
 ghost use Rattle.ba_node_steps.specs.Lawful.{AreFew, AreLawful, Event, IsStepOf, Replays, after_record, change, event_of};
 ghost use Rattle.ba_node_steps.specs.Letters.{IsLetterOf};
-ghost use Rattle.ba_node_steps.specs.Node.{NodeState, SameNode, last, new_node};
+ghost use Rattle.ba_node_steps.specs.Node.{Among, NodeState, SameNode, last, new_node};
 ghost use Rattle.ba_node_steps.specs.Ticks.{tick_step};
 ghost use Rattle.ba_node_steps.specs.declared.answers.Reply.TheVariants as reply;
 ghost use Rattle.ba_node_steps.specs.declared.inputs.Input.TheVariants as input;
@@ -144,4 +150,27 @@ pub fn a_record_gives_what_fits()
 pub fn a_replay_has_few_objects()
     ensures { (records : List Record) (n : NodeState) → AllByRecursion InRange records → AreFew records
         → Replays records n → last n ≤ 2 * length records }
+{}
+
+/// Whatever arrives at a node, whoever sends it, and wherever the node stops: the verdict of a scope and of an end stays, once it
+/// is there. An end tells its participant that verdict alone, which is its scope's but in a MixedOutcome root, and Close only after
+/// the end was Completed. So no two participants of a scope whose ends have one word are ever told two words.
+pub fn each_node_keeps_its_word()
+    ensures scopes { (number : ℕ) (base : List ℕ) (more past : List Happening) (s : ScopeState) (v : Verdict)
+        → HasCounters number (more ++ past) → Among (node_then number base past).scopes s → s.verdict ≡ Some v
+        → HasScopeVerdict (node_then number base (more ++ past)) s.id v }
+    ensures ends { (number : ℕ) (base : List ℕ) (more past : List Happening) (s : ScopeState) (e : End) (v : Verdict)
+        → HasCounters number (more ++ past) → HasEndAt (node_then number base past) e.id s e → e.verdict ≡ Some v
+        → HasEndVerdict (node_then number base (more ++ past)) s.id e.id v }
+    ensures told { (number : ℕ) (base : List ℕ) (past : List Happening) (l : Letter) (v : Verdict) → HasCounters number past
+        → Among (letters_of number base past) l → word_in l.message ≡ Some v
+        → TellsItsVerdict (node_then number base past) l v }
+    ensures one { (number : ℕ) (base : List ℕ) (past : List Happening) (id : Id) (v u : Verdict) → HasCounters number past
+        → IsTold (letters_of number base past) id v → IsTold (letters_of number base past) id u → v ≡ u }
+    ensures one_in_scope { (number : ℕ) (base : List ℕ) (past : List Happening) (s : ScopeState) (e f : End) (v u : Verdict)
+        → HasCounters number past → Among (node_then number base past).scopes s → HasOneWord s → Among s.ends e → Among s.ends f
+        → IsTold (letters_of number base past) e.id v → IsTold (letters_of number base past) f.id u → v ≡ u }
+    ensures completed { (number : ℕ) (base : List ℕ) (past : List Happening) (h : Happening) (l : Letter)
+        → HasCounters number (h ∷ past) → (consequence (node_then number base past) h).letter ≡ Some l
+        → l.message ≡ message.Notice notice.Close → HadCompleted (states_of number base past) (sender_of l.number) }
 {}
