@@ -19,4 +19,5 @@ pub mod Replayed
 pub mod SameNode
 pub mod ScopesGo
 pub mod StepsFit
+pub mod TellingLemmas
 pub mod Unchanged

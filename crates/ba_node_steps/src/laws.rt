@@ -26,6 +26,7 @@ ghost use Rattle.ba_node_steps.specs.Histories.{HadCompleted, Happening, HasCoun
 ghost use Rattle.ba_node_steps.specs.Lawful.{AreFew, AreLawful, Event, IsStepOf, Replays, after_record, change, event_of};
 ghost use Rattle.ba_node_steps.specs.Letters.{IsLetterOf};
 ghost use Rattle.ba_node_steps.specs.Node.{Among, NodeState, SameNode, last, new_node};
+ghost use Rattle.ba_node_steps.specs.Tellings.{two_closes, two_undone};
 ghost use Rattle.ba_node_steps.specs.Ticks.{tick_step};
 ghost use Rattle.ba_node_steps.specs.declared.answers.Reply.TheVariants as reply;
 ghost use Rattle.ba_node_steps.specs.declared.inputs.Input.TheVariants as input;
@@ -173,4 +174,8 @@ pub fn each_node_keeps_its_word()
     ensures completed { (number : ℕ) (base : List ℕ) (past : List Happening) (h : Happening) (l : Letter)
         → HasCounters number (h ∷ past) → (consequence (node_then number base past) h).letter ≡ Some l
         → l.message ≡ message.Notice notice.Close → HadCompleted (states_of number base past) (sender_of l.number) }
+    ensures close { HasCounters 1 two_closes × IsTold (letters_of 1 first_base two_closes) (object 1 2) Close
+        × IsTold (letters_of 1 first_base two_closes) (object 1 3) Close }
+    ensures undo { HasCounters 1 two_undone × IsTold (letters_of 1 first_base two_undone) (object 1 2) Undo
+        × IsTold (letters_of 1 first_base two_undone) (object 1 3) Undo }
 {}
