@@ -1,1 +1,2 @@
-pub mod Appended
+pub mod PathLemmas
+pub mod RoutingLemmas

@@ -16,6 +16,7 @@ pub mod Places
 pub mod RecordsGive
 pub mod Reenacted
 pub mod Replayed
+pub mod RoutingLemmas
 pub mod SameNode
 pub mod ScopesGo
 pub mod StepsFit

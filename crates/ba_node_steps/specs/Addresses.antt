@@ -1,26 +1,15 @@
 -- Believe: the addresses of a node's objects, and the numbers of the messages that they send.
-use Rattle.std.specs.Prelude.{ℕ, zero, suc, ◌+◌, ◌*◌, ◌/◌, ◌%◌, ◌^◌, ◌<◌, List, [], ◌∷◌, ◌++◌, nat_lt, if◌then◌else◌, codes}
+use Rattle.std.specs.Prelude.{ℕ, ◌+◌, ◌*◌, ◌%◌, ◌^◌, ◌<◌, List, [], ◌++◌, codes}
+use Rattle.std.specs.Int.{to_be_bytes, w128}
 use Rattle.ba_core.specs.declared.identifiers.Id.{Id}
 use Rattle.ba_message.specs.declared.endpoints.Epr.{Epr}
+use Rattle.uuid.specs.Text.{hyphenated_text, lower}
 
 -- ---- an identifier as text: 8-4-4-4-12 hexadecimal digits in lower case (RFC 9562, section 4)
 
-abbrev pub hex_digit : ℕ → ℕ
-hex_digit n = if nat_lt n 10 then 0x30 + n else 0x57 + n
-
--- so many digits of a number, the lowest last
-abbrev pub hex_digits : ℕ → ℕ → List ℕ
-hex_digits zero n = []
-hex_digits (suc k) n = hex_digits k (n / 16) ++ hex_digit (n % 16) ∷ []
-
 -- the text of an identifier, which holds its lowest 128 bits
 unfoldable pub hyphenated : ℕ → List ℕ
-hyphenated n =
-    hex_digits 8 (n / 2 ^ 96)
-    ++ (codes "-" ++ (hex_digits 4 (n / 2 ^ 80)
-    ++ (codes "-" ++ (hex_digits 4 (n / 2 ^ 64)
-    ++ (codes "-" ++ (hex_digits 4 (n / 2 ^ 48)
-    ++ (codes "-" ++ hex_digits 12 n)))))))
+hyphenated n = hyphenated_text lower (to_be_bytes w128 n)
 
 -- its text holds it whole
 abbrev pub HasText : Id → Type 0

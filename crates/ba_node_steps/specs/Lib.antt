@@ -6,6 +6,7 @@ pub mod Histories
 pub mod Lawful
 pub mod Letters
 pub mod Node
+pub mod Routing
 pub mod Shown
 pub mod Steps
 pub mod Tellings

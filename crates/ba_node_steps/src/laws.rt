@@ -18,7 +18,7 @@ ghost use Rattle.ba_record.specs.declared.records.Record.{Record};
 ghost use Rattle.ba_scope.specs.Scope.{ScopeState};
 ghost use Rattle.ba_scope_ends.specs.declared.ends.End.{End};
 ghost use Rattle.ba_core.specs.declared.refusals.TheConstants.{ALREADY_DECIDED, NOT_READY};
-ghost use Rattle.ba_node_steps.specs.Addresses.{HasText, coordinator_of, participant_of, registration_of, sender_of};
+ghost use Rattle.ba_node_steps.specs.Addresses.{HasText, coordinator_of, hyphenated, participant_of, registration_of, sender_of};
 ghost use Rattle.ba_node_steps.specs.Endpoints.{AllReachable, GivesFit};
 ghost use Rattle.ba_node_steps.specs.Examples.{node_after, after_records, all_written, child_is_made, fails_below, first_base, first_completes, first_node, object, own_choices, register_below, register_of, reply_to, second_exits, second_node, shown_ends, shown_scopes};
 ghost use Rattle.ba_node_steps.specs.Fits.{HasSpareCounters, NodeFits};
@@ -27,6 +27,7 @@ ghost use Rattle.ba_node_steps.specs.Lawful.{AreFew, AreLawful, Event, IsStepOf,
 ghost use Rattle.ba_node_steps.specs.Letters.{IsLetterOf};
 ghost use Rattle.ba_node_steps.specs.Node.{Among, NodeState, SameNode, last, new_node};
 ghost use Rattle.ba_node_steps.specs.Tellings.{two_closes, two_undone};
+ghost use Rattle.ba_node_steps.specs.Routing.{identifier_in, identifier_of_text};
 ghost use Rattle.ba_node_steps.specs.Ticks.{tick_step};
 ghost use Rattle.ba_node_steps.specs.declared.answers.Reply.TheVariants as reply;
 ghost use Rattle.ba_node_steps.specs.declared.inputs.Input.TheVariants as input;
@@ -100,6 +101,19 @@ pub fn addresses_tell_objects_apart()
     ensures participants { (base other : List ℕ) (a b : Id) → HasText a → HasText b
         → participant_of base a ≡ participant_of other b → a ≡ b }
     ensures sides { (base other : List ℕ) (a b : Id) → coordinator_of base a ≢ participant_of other b }
+{}
+
+/// An identifier's text tells it, and nothing else is read as one.
+pub fn texts_tell_identifiers()
+    ensures its { (text : List ℕ) (id : Id) → identifier_of_text text ≡ Some id → text ≡ hyphenated id.0 }
+    ensures read { (id : Id) → HasText id → identifier_of_text (hyphenated id.0) ≡ Some id }
+{}
+
+/// The end of an object's address tells the object, whatever the base of the node.
+pub fn addresses_end_with_their_objects()
+    ensures scopes { (base : List ℕ) (id : Id) → HasText id → identifier_in (registration_of base id).address ≡ Some id }
+    ensures ends { (base : List ℕ) (id : Id) → HasText id → identifier_in (coordinator_of base id).address ≡ Some id }
+    ensures participants { (base : List ℕ) (id : Id) → HasText id → identifier_in (participant_of base id).address ≡ Some id }
 {}
 
 /// An AtomicOutcome root with two participants, of which the first completed, isn't closed before the second exited.

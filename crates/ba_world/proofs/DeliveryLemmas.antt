@@ -2,7 +2,7 @@
 use Rattle.std.proofs.Common.{◌≡◌, ℕ, ◌+◌, Bool, true, false, [], ◌∷◌, ◌++◌, length, Option, None, Some, Result, Ok, Err, refl, sym, ap}
 use Rattle.std.proofs.Common.{◌∙◌, subst, if◌then◌else◌}
 use Rattle.std.specs.Option.{option_to_list}
-use Rattle.ba_arrivals.specs.declared.mails.Mail.TheVariants as mail
+use Rattle.ba_world.specs.declared.mails.Mail.TheVariants as mail
 use Rattle.ba_core.specs.declared.identifiers.Id.{Id}
 use Rattle.ba_world_events.specs.declared.outcomes.Outcome.{Outcome}
 use Rattle.ba_world_events.specs.declared.outcomes.Outcome.TheVariants as outcome

@@ -4,9 +4,9 @@ use Rattle.std.proofs.Common.{◌≡◌, ℕ, suc, ◌+◌, ◌-◌, ◌^◌, mi
 use Rattle.std.proofs.Common.{Err, refl, sym, ap, ◌∙◌, subst, if◌then◌else◌, arith}
 use Rattle.std.specs.Option.{option_map, option_to_list}
 use Rattle.std.proofs.lemmas.List.{append-nil}
-use Rattle.ba_arrivals.specs.Mails.{mail_of}
-use Rattle.ba_arrivals.specs.declared.mails.Mail.{Mail}
-use Rattle.ba_arrivals.specs.declared.mails.Mail.TheVariants as mail
+use Rattle.ba_world.specs.Mails.{mail_of}
+use Rattle.ba_world.specs.declared.mails.Mail.{Mail}
+use Rattle.ba_world.specs.declared.mails.Mail.TheVariants as mail
 use Rattle.ba_core.specs.Numbers.{node_of}
 use Rattle.ba_core.specs.declared.identifiers.Id.{Id}
 use Rattle.ba_world_events.specs.declared.outcomes.Outcome.{Outcome}

@@ -5,5 +5,6 @@ pub mod EventLemmas
 pub mod MessageLemmas
 pub mod NameLemmas
 pub mod PlaceLemmas
+pub mod PostedMessages
 pub mod StageAnswers
 pub mod StepLemmas

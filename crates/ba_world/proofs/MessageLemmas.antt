@@ -1,6 +1,6 @@
 -- Where the messages of a world go, and the context of a scope as it is handed in; for the clauses of messages.
-use Rattle.std.proofs.Common.{◌≡◌, ◌∙◌, ℕ, ◌^◌, ◌<◌, List, map, Option, Some, Ok, sym, ap, subst, arith}
-use Rattle.ba_arrivals.specs.Mails.{mail_of}
+use Rattle.std.proofs.Common.{◌≡◌, ◌∙◌, ℕ, ◌^◌, ◌<◌, List, map, Option, None, Some, Ok, sym, ap, subst, arith}
+use Rattle.ba_world.specs.Mails.{mail_of}
 use Rattle.ba_core.specs.Numbers.{node_of}
 use Rattle.ba_core.specs.declared.identifiers.Id.{Id}
 use Rattle.ba_message.proofs.OwnEndpoints.{own_endpoint_fits}
@@ -9,13 +9,14 @@ use Rattle.ba_message.specs.declared.endpoints.Epr.{Epr}
 use Rattle.ba_message.specs.declared.messages.Letter.{Letter}
 use Rattle.ba_world_play.proofs.Arriving.{mail_among}
 use Rattle.ba_world_play.proofs.OwnAddresses.{registration_dials}
-use Rattle.ba_world_play.specs.Arrivals.{identifier_in, letter_input}
+use Rattle.ba_world_play.specs.Arrivals.{Arrival, arrival, letter_arrival}
 use Rattle.ba_world_play.specs.Plays.{WorldOnDisks, mail_at, node_base}
 use Rattle.ba_world_play.specs.Posting.{CanBePosted}
 use Rattle.ba_world_runs.specs.World as runs
 use Rattle.ba_world_runs.specs.World.{Mail, Net, net_of, node_at}
 use Rattle.ba_node_steps.specs.Addresses.{registration_of}
 use Rattle.ba_node_steps.specs.Node.{NodeState}
+use Rattle.ba_node_steps.specs.Routing.{identifier_in, letter_input}
 use Rattle.ba_node_steps.specs.declared.inputs.Input.{Input}
 use Rattle.ba_world.specs.Worlds.{IsStageOf, StageValue}
 use Rattle.ba_world.specs.declared.messages.Delivery.{Delivery}
@@ -39,25 +40,36 @@ module _ (v : StageValue) (number : ℕ) (found : Option Mail) (at : found ≡ m
 
 -- ---- where it goes
 
-module _ (l arrived : Letter) (id : Id) (node : ℕ) (base : List ℕ) (input : Option Input) (same : arrived ≡ l)
-    (id_here : id ≡ identifier_in arrived.to.address) (node_here : node ≡ node_of id.0) (base_here : base ≡ node_base node)
-    (leads : (n : NodeState) → n.base ≡ base → input ≡ letter_input n id arrived) where
-  id_is : id ≡ identifier_in l.to.address
-  id_is = id_here ∙ ap (λ (x : Letter). identifier_in x.to.address) same
+module _ (l arrived : Letter) (same : arrived ≡ l) where
+  goes : (w : Net) (found : Option Id) → found ≡ identifier_in arrived.to.address
+      → letter_arrival w found l ≡ arrival w (runs.letter l)
+  goes w found is =
+      ap (λ (o : Option Id). letter_arrival w o l) (is ∙ ap (λ (x : Letter). identifier_in x.to.address) same)
 
-  node_is : node ≡ node_of (identifier_in l.to.address).0
-  node_is = node_here ∙ ap (λ (x : Id). node_of x.0) id_is
+  answered : ◌≡◌ {A = Option Id} (Some arrived.number) (Some l.number)
+  answered = ap (λ (x : Letter). Some x.number) same
 
-  pub letter_delivers : (w : Net) → HasBases w
+  pub letter_goes_nowhere : None ≡ identifier_in arrived.to.address → (w : Net) → HasBases w
+      → IsDeliveryOf w (runs.letter l) (record { node = 0; input = None; answers = Some arrived.number })
+  letter_goes_nowhere none w bases = record {
+    node = ap (λ (a : Arrival). a.node) (goes w None none);
+    input = ap (λ (a : Arrival). a.input) (goes w None none);
+    answers = answered;
+  }
+
+  pub letter_delivers : (id : Id) (node : ℕ) (base : List ℕ) (input : Option Input) → Some id ≡ identifier_in arrived.to.address
+      → node ≡ node_of id.0 → base ≡ node_base node
+      → ((n : NodeState) → n.base ≡ base → input ≡ letter_input n id arrived) → (w : Net) → HasBases w
       → IsDeliveryOf w (runs.letter l) (record { node = node; input = input; answers = Some arrived.number })
-  letter_delivers w bases =
-      let k : ℕ = node_of (identifier_in l.to.address).0 in
+  letter_delivers id node base input id_here node_here base_here leads w bases =
+      let k : ℕ = node_of id.0 in
       record {
-        node = node_is;
+        node = node_here ∙ ap (λ (a : Arrival). a.node) (goes w (Some id) id_here);
         input =
-            leads (node_at w k) (bases k ∙ ap node_base (sym node_is) ∙ sym base_here)
-            ∙ (λ i. letter_input (node_at w k) (id_is i) (same i));
-        answers = ap (λ (x : Letter). Some x.number) same;
+            leads (node_at w k) (bases k ∙ ap node_base (sym node_here) ∙ sym base_here)
+            ∙ ap (letter_input (node_at w k) id) same
+            ∙ ap (λ (a : Arrival). a.input) (goes w (Some id) id_here);
+        answers = answered;
       }
 
 -- ---- the context of a scope

@@ -4,8 +4,8 @@ use Rattle.std.proofs.Common.{◌≡◌, inl, inr, ℕ, suc, zero, ◌+◌, ◌<
 use Rattle.std.proofs.Common.{Ok, Err, refl, sym, ap, ◌∙◌, subst, ◌⊎◌, arith}
 use Rattle.std.specs.List.{AllByRecursion}
 use Rattle.std.specs.Result.{OnOk, is_err}
-use Rattle.ba_arrivals.specs.Mails.{mail_of}
-use Rattle.ba_arrivals.specs.declared.mails.Mail.{Mail}
+use Rattle.ba_world.specs.Mails.{mail_of}
+use Rattle.ba_world.specs.declared.mails.Mail.{Mail}
 use Rattle.ba_ports_memory.specs.DiskValue.{DiskValue, MediumValue}
 use Rattle.ba_world_places.specs.Places.{Matches, disk_at}
 use Rattle.ba_world_places.specs.declared.places.Place.{Place}

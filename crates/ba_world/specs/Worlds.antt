@@ -1,7 +1,7 @@
 -- Believe: a world of shipped nodes as contracts see it, and when it is that of a play: each node and each disk is the play's, and the
 -- worlds so far are a run.
-use Rattle.ba_arrivals.specs.Mails.{mail_of}
-use Rattle.ba_arrivals.specs.declared.mails.Mail.{Mail}
+use Rattle.ba_world.specs.Mails.{mail_of}
+use Rattle.ba_world.specs.declared.mails.Mail.{Mail}
 use Rattle.ba_core.specs.Numbers.{node_of}
 use Rattle.ba_core.specs.declared.identifiers.Id.{Id}
 use Rattle.ba_world_events.specs.declared.outcomes.Outcome.{Outcome}

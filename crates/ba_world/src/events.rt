@@ -18,7 +18,6 @@ use crate::faults::StepFault;
 use crate::messages::Delivery;
 use crate::outcomes::{Makes, answer_outcome, label_of};
 use crate::stages::Stage;
-use ba_arrivals::Mail;
 use ba_core::{Id, Kind, Protocol};
 use ba_message::{Context, Letter};
 use ba_node_steps::{Input, Reply};

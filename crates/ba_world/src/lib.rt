@@ -3,6 +3,7 @@
 
 mod events;
 mod faults;
+mod mails;
 mod messages;
 mod outcomes;
 mod stages;

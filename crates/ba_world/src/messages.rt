@@ -1,7 +1,7 @@
 //! The messages of a world: where one goes, the context of a scope, and what joins the bag.
 ghost use Rattle.std.specs.Prelude.{◌≡◌, ◌+◌, ◌++◌, [], ◌∷◌, length, map, IfOk};
 ghost use Rattle.std.specs.Option.{option_map};
-ghost use Rattle.ba_arrivals.specs.Mails.{mail_of};
+ghost use Rattle.ba_world.specs.Mails.{mail_of};
 ghost use Rattle.ba_message.specs.Letters.{IsPostable, IsReply};
 ghost use Rattle.ba_world_play.specs.Posting.{CanBePosted};
 ghost use Rattle.ba_world_runs.specs.World as runs;
@@ -11,17 +11,18 @@ ghost use Rattle.ba_world_play.specs.Plays.{WorldOnDisks, context_handed, mail_a
 ghost use Rattle.ba_scope.specs.Scope.{ScopeState};
 ghost use Rattle.ba_world.specs.Worlds.{IsStageOf};
 ghost use Rattle.ba_world.specs.inside.Deliveries.{HasBases, IsDeliveryOf};
-ghost use Rattle.ba_world.specs.inside.Stages.{IsArrival, IsReplySent, IsStaged, answer_of_reply};
+ghost use Rattle.ba_world.specs.inside.Stages.{IsArrival, IsReplySent, IsStaged};
 
 use crate::faults::StepFault;
+use crate::mails::{Mail, posted, posted_answer};
 use crate::outcomes::{Makes, label_of, reply_outcome};
 use crate::stages::Stage;
-use ba_arrivals::{
-    Mail, answer_input, identifier_in, letter_input, posted, posted_answer, sender_of,
-};
 use ba_core::{Id, Kind, Memory};
 use ba_message::{Context, Letter, Message};
-use ba_node_addresses::{context_identifier, registration_of};
+use ba_node_addresses::{
+    answer_input, answer_of_reply, context_identifier, identifier_in, letter_input,
+    registration_of, sender_of,
+};
 use ba_node_steps::{Input, Reply};
 use ba_world_events::Outcome;
 use ba_world_places::base_of;
@@ -31,7 +32,7 @@ use std::alloc::Global;
 /// Where a message goes.
 #[derive(Debug, Drop)]
 pub struct Delivery {
-    /// The number of the node, from 1; the world may have none with this number.
+    /// The number of the node; the world may have none with this number, and has none with the number 0.
     pub node: u32,
     /// The input to which it leads there, if it leads to one.
     pub input: Option<Input>,
@@ -123,11 +124,17 @@ fn letter_delivery(alloc: Global, letter: &Letter) -> Result<Delivery, Memory>
     ensures { IfOk result (λ to. (w : Net) → HasBases w → IsDeliveryOf w (runs.letter letter.now) to) }
 {
     let arrived = posted(alloc, letter)?;
-    let id = identifier_in(arrived.to.address.as_slice());
+    let answers = Some(arrived.number);
+    let Some(id) = identifier_in(arrived.to.address.as_slice()) else {
+        return Ok(Delivery {
+            node: 0,
+            input: None,
+            answers,
+        });
+    };
     let node = id.node();
     let base = base_of(alloc, node)?;
-    let answers = Some(arrived.number);
-    let input = letter_input(alloc, base.as_slice(), id, arrived)?;
+    let input = letter_input(base.as_slice(), id, arrived);
     Ok(Delivery {
         node,
         input,
@@ -145,15 +152,4 @@ fn answer_delivery(alloc: Global, number: Id, message: &Message) -> Result<Deliv
         input: answer_input(number, arrived),
         answers: None,
     })
-}
-
-// The answer that a reply is to a letter.
-fn answer_of_reply(reply: Reply) -> Option<Message>
-    ensures { result ≡ answer_of_reply reply }
-{
-    match reply {
-        Reply::Enrolment(coordinator) => Some(Message::Registered(coordinator)),
-        Reply::SoapFault(code) => Some(Message::Fault(code)),
-        _ => None,
-    }
 }

@@ -7,7 +7,7 @@ ghost use Rattle.ba_world.specs.Worlds.{AreDisksOf, IsStageOf, is_node_up, seen_
 ghost use Rattle.ba_world.specs.inside.Stages.{ArePlacesAtStart, IsKindNamed, IsNotThere, IsTakenOut, place_at, with_place};
 
 use crate::faults::StepFault;
-use ba_arrivals::Mail;
+use crate::mails::Mail;
 use ba_core::{Id, Kind, List, Memory};
 use ba_node_steps::Seen;
 use ba_ports_memory::MemDisk;

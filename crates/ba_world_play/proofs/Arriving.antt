@@ -1,6 +1,6 @@
 -- A message leads at its node to the input that it brings there; for the law that each event is a step of the world.
 use Rattle.std.proofs.Common.{◌≡◌, inl, inr, ℕ, suc, zero, ◌+◌, ◌-◌, ◌*◌, ◌/◌, ◌%◌, ◌^◌, Bool, true, false, List, [], ◌∷◌, nat_eq}
-use Rattle.std.proofs.Common.{slice_get, None, Some, refl, sym, subst, if◌then◌else◌, arith}
+use Rattle.std.proofs.Common.{slice_get, Option, None, Some, refl, sym, subst, if◌then◌else◌, arith}
 use Rattle.std.proofs.lemmas.Bool.Decides.{nat_tests}
 use Rattle.ba_core.specs.Numbers.{code_part, node_of}
 use Rattle.ba_core.specs.declared.identifiers.Id.{Id}
@@ -10,13 +10,13 @@ use Rattle.ba_message.specs.Endpoints.{same_epr}
 use Rattle.ba_message.specs.declared.messages.Letter.{Letter}
 use Rattle.ba_message.specs.declared.messages.Message.{Message}
 use Rattle.ba_message.specs.declared.messages.Message.TheVariants as message
-use Rattle.ba_world_play.specs.Arrivals.{answer_input, arrival, identifier_in, input_by_address, letter_input, notice_input, register_input}
-use Rattle.ba_world_play.specs.Arrivals.{told_input}
+use Rattle.ba_world_play.specs.Arrivals.{arrival, letter_arrival}
 use Rattle.ba_world_play.specs.Plays.{mail_at}
 use Rattle.ba_world_runs.specs.World.{Mail, Net, answer, letter, node_at}
 use Rattle.ba_world_runs.specs.WorldSteps.{BringsInput}
 use Rattle.ba_node_steps.specs.Addresses.{coordinator_of, message_number, participant_of, register_code, registration_of, sender_of}
 use Rattle.ba_node_steps.specs.Node.{Among, IsHere, NodeState}
+use Rattle.ba_node_steps.specs.Routing.{answer_input, identifier_in, input_by_address, letter_input, notice_input, register_input, told_input}
 use Rattle.ba_node_steps.specs.declared.inputs.Input.{Input}
 use Rattle.ba_node_steps.specs.declared.inputs.Input.TheVariants as input
 
@@ -95,14 +95,14 @@ letter_brings n id l i node h = by_code (nat_eq (code_part id.0) 0) refl h
 -- ---- an answer
 
 -- the number of a Register is its sender's with the code above it
-register_number : (number : Id) → code_part number.0 ≡ register_code
+pub register_number : (number : Id) → code_part number.0 ≡ register_code
     → number ≡ message_number register_code (record { 0 = sender_of number })
 register_number number is = λ i. record { 0 = whole i }
   where
     whole : number.0 ≡ 17 * 2 ^ 96 + number.0 % 2 ^ 96
     whole = let high : number.0 / 2 ^ 96 ≡ 17 = is in omega (arith, high)
 
-no_code : (number : ℕ) → number % 2 ^ 96 / 2 ^ 96 ≡ 0
+pub no_code : (number : ℕ) → number % 2 ^ 96 / 2 ^ 96 ≡ 0
 no_code number = omega arith
 
 module _ (n : NodeState) (number : Id) (i : Input) (node : node_of (sender_of number) ≡ n.number) where
@@ -131,8 +131,11 @@ module _ (n : NodeState) (number : Id) (i : Input) (node : node_of (sender_of nu
 
 pub arrival_brings : (w : Net) (m : Mail) (i : Input) → ((k : ℕ) → (node_at w k).number ≡ k) → (arrival w m).input ≡ Some i
     → BringsInput (node_at w (arrival w m).node) m i
-arrival_brings w (letter l) i numbers h =
-    let id : Id = identifier_in l.to.address in
-    letter_brings (node_at w (node_of id.0)) id l i (sym (numbers (node_of id.0))) h
+arrival_brings w (letter l) i numbers h = by_identifier (identifier_in l.to.address) h
+  where
+    by_identifier : (found : Option Id) → (letter_arrival w found l).input ≡ Some i
+        → BringsInput (node_at w (letter_arrival w found l).node) (letter l) i
+    by_identifier None none = absurd cc
+    by_identifier (Some id) leads = letter_brings (node_at w (node_of id.0)) id l i (sym (numbers (node_of id.0))) leads
 arrival_brings w (answer number m) i numbers h =
     answer_brings (node_at w (node_of (sender_of number))) number i (sym (numbers (node_of (sender_of number)))) m h

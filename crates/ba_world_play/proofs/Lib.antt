@@ -2,6 +2,7 @@ pub mod AppendStops
 pub mod Arriving
 pub mod Bases
 pub mod Driven
+pub mod EachLeads
 pub mod EventDisks
 pub mod EventSteps
 pub mod Holding

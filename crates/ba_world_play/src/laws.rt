@@ -10,7 +10,7 @@ ghost use Rattle.ba_journal.specs.Loads.{EndsFailed, settling};
 ghost use Rattle.ba_journal.specs.Readings.{ReadsAs, reading_of};
 ghost use Rattle.ba_journal.specs.declared.readings.Reading.{Reading as Found};
 ghost use Rattle.ba_ports_memory.specs.DiskValue.{DiskValue, Drives, IsUntroubled, MediumValue, armed_for, bytes_of, holding};
-ghost use Rattle.ba_world_play.specs.Arrivals.{arrival};
+ghost use Rattle.ba_world_play.specs.Arrivals.{Leads, arrival};
 ghost use Rattle.ba_world_play.specs.Calls.{IsTaken, IsUpAgain};
 ghost use Rattle.ba_world_play.specs.Disks.{DiskFits, HaveSpare, HoldsNode, IsAtRest};
 ghost use Rattle.ba_world_play.specs.Nodes.{append_run, armed_with, called_node, crashed, is_past_end, load_run, lost_call, node_call, node_taken, open_call, running};
@@ -28,9 +28,15 @@ ghost use Rattle.ba_record.specs.declared.records.Record.{Record};
 ghost use Rattle.ba_record.specs.declared.records.Record.TheVariants as journal;
 ghost use Rattle.ba_world_runs.specs.Runs.{IsRun};
 ghost use Rattle.ba_world_runs.specs.Safety.{IsItsRecords};
-ghost use Rattle.ba_world_runs.specs.World.{Mail, Occasion, World, WorldNode, is_closed, is_down, is_up, net_of, node_at};
+ghost use Rattle.ba_world_runs.specs.World.{Mail, Net, Occasion, World, WorldNode, answer, is_closed, is_down, is_up, letter, net_of, node_at};
 ghost use Rattle.ba_world_runs.specs.WorldSteps.{BringsInput, IsPossible, WorldStep, effect};
+ghost use Rattle.ba_core.specs.Numbers.{code_part};
+ghost use Rattle.ba_core.specs.declared.identifiers.Id.{Id};
+ghost use Rattle.ba_message.specs.declared.messages.Letter.{Letter};
+ghost use Rattle.ba_message.specs.declared.messages.Message.{Message};
+ghost use Rattle.ba_node_steps.specs.Addresses.{register_code};
 ghost use Rattle.ba_node_steps.specs.Endpoints.{GivesFit};
+ghost use Rattle.ba_node_steps.specs.Node.{Among};
 ghost use Rattle.ba_node_steps.specs.declared.inputs.Input.{Input};
 
 /// Each event that is played is a step of the world, in each run whose nodes, where they are up, have counters left.
@@ -181,4 +187,15 @@ pub fn outcomes_are_recorded_at_each_moment()
     ensures { (count : ℕ) (events : List NumberedEvent) → count < 2 ^ 32 → 2 * length events + 2 < 2 ^ 64
         → (later : List World) (w : World) (before : List World) → (story count events).worlds ≡ later ++ (w ∷ before)
         → OutcomesAreRecorded w before }
+{}
+
+/// In each world of a run each letter that was ever sent leads to an input at the node to which it goes, and so does each answer to
+/// a Register. The answer to a notice leads nowhere.
+pub fn each_message_leads()
+    ensures letters { (w : World) (before : List World) (l : Letter) → IsRun (w ∷ before) → Among w.bag (letter l)
+        → Leads (net_of w) (letter l) }
+    ensures answers { (w : World) (before : List World) (number : Id) (m : Message) → IsRun (w ∷ before)
+        → Among w.bag (answer number m) → code_part number.0 ≡ register_code → Leads (net_of w) (answer number m) }
+    ensures nowhere { (w : Net) (number : Id) (m : Message) → code_part number.0 ≢ register_code
+        → (arrival w (answer number m)).input ≡ None }
 {}

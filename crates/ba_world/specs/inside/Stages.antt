@@ -1,7 +1,7 @@
 -- Inside: what an event makes of the places of a world, by the parts in which it is played.
 use Rattle.std.specs.Prelude.{◌≡◌, ℕ, ◌+◌, ◌-◌, Bool, true, false, List, [], ◌∷◌, ◌++◌, length, nat_eq, slice_get, slice_set, Option, None}
 use Rattle.std.specs.Prelude.{Some, Result, Ok, Err, if◌then◌else◌}
-use Rattle.ba_arrivals.specs.declared.mails.Mail.TheVariants as mail
+use Rattle.ba_world.specs.declared.mails.Mail.TheVariants as mail
 use Rattle.ba_core.specs.Numbers.{node_of}
 use Rattle.ba_core.specs.declared.identifiers.Id.{Id}
 use Rattle.ba_core.specs.declared.protocols.Kind.{Kind}
@@ -10,7 +10,6 @@ use Rattle.ba_world_events.specs.declared.outcomes.Outcome.TheVariants as outcom
 use Rattle.ba_message.specs.declared.messages.Context.{Context}
 use Rattle.ba_message.specs.declared.messages.Letter.{Letter}
 use Rattle.ba_message.specs.declared.messages.Message.{Message}
-use Rattle.ba_message.specs.declared.messages.Message.TheVariants as message
 use Rattle.ba_world_places.specs.Calls.{IsCallAnswer}
 use Rattle.ba_world_places.specs.Places.{Matches}
 use Rattle.ba_world_places.specs.declared.calls.Answer.{Answer}
@@ -28,10 +27,10 @@ use Rattle.ba_world_runs.specs.Runs.{node_at_start}
 use Rattle.ba_world_runs.specs.World as runs
 use Rattle.ba_world_runs.specs.World.{Occasion, is_up, net_of, ticks}
 use Rattle.ba_scope.specs.Scope.{ScopeState}
+use Rattle.ba_node_steps.specs.Routing.{answer_of_reply}
 use Rattle.ba_node_steps.specs.Steps.{node_step}
 use Rattle.ba_node_steps.specs.Ticks.{tick_step}
 use Rattle.ba_node_steps.specs.declared.answers.Reply.{Reply}
-use Rattle.ba_node_steps.specs.declared.answers.Reply.TheVariants as reply
 use Rattle.ba_node_steps.specs.declared.inputs.Input.{Input}
 use Rattle.ba_world.specs.Worlds.{IsSetAs, IsStageOf, StageValue}
 use Rattle.ba_world.specs.declared.faults.StepFault.{StepFault}
@@ -162,12 +161,6 @@ abbrev pub IsArrival : WorldOnDisks → ℕ → Result Delivery StepFault → Ty
 IsArrival p number (Ok to) = Arrives p number to
 IsArrival p number (Err (fault.Missing why)) = (why ≡ missing.Message) × (mail_at p.world.bag number ≡ None)
 IsArrival p number (Err fault.Memory) = Unit {0}
-
--- the answer that a reply is to a letter
-abbrev pub answer_of_reply : Reply → Option Message
-answer_of_reply (reply.Enrolment coordinator) = Some (message.Registered coordinator)
-answer_of_reply (reply.SoapFault c) = Some (message.Fault c)
-answer_of_reply r = None
 
 abbrev pub IsReplySentBy : StageValue → StageValue → Option Id → Option Message → Outcome → Outcome → Type 0
 IsReplySentBy old new (Some number) (Some m) else_shown shown =

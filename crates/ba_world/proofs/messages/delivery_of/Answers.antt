@@ -1,6 +1,6 @@
 use Rattle.std.proofs.Common.{IfOk, subst, sym}
-use Rattle.ba_arrivals.specs.Mails.{mail_of}
-use Rattle.ba_arrivals.specs.declared.mails.Mail.{Mail}
+use Rattle.ba_world.specs.Mails.{mail_of}
+use Rattle.ba_world.specs.declared.mails.Mail.{Mail}
 use Rattle.ba_world_runs.specs.World.{Net}
 use Rattle.ba_world.specs.inside.Deliveries.{HasBases, IsDeliveryOf}
 use Rattle.ba_world.proofs.messages.delivery_of.Goals as goal

@@ -1,5 +1,5 @@
 use Rattle.std.proofs.Common.{Some, refl}
-use Rattle.ba_arrivals.specs.Mails.{mail_of}
+use Rattle.ba_world.specs.Mails.{mail_of}
 use Rattle.ba_world.proofs.MessageLemmas.{arrives, postable}
 use Rattle.ba_world.proofs.stages.Stage.arrive.Goals as goal
 

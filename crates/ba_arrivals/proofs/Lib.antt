@@ -1,3 +1,0 @@
-pub mod EndpointInputs
-pub mod PostedMessages
-pub mod SameEndpoints

@@ -1,2 +1,0 @@
-pub mod Mails
-pub mod inside
