@@ -68,6 +68,8 @@ pub fn check<S: Source, K: Sink>(
     ensures read { (result ≡ Err CheckFault.Read) → Rose (S.faults source.old) (S.faults source.new) }
     ensures unwritten { (result ≡ Err CheckFault.Read) → Keeps (K.written sink.old) (K.written sink.new) }
     ensures write { (result ≡ Err CheckFault.Write) → FailsToWrite (K.faults sink.old) (K.faults sink.new) (K.took_nothing sink.new) }
+    ensures source_stayed { OnOk result (S.faults source.new ≡ S.faults source.old) }
+    ensures sink_stayed { (result ≡ Err CheckFault.Write → ⊥) → K.faults sink.new ≡ K.faults sink.old }
     ensures bounded { TakesAtMost (S.left source.old) (S.left source.new) (MOST_TEXT + 1) }
 {
     match read_up_to(alloc, source, MOST_TEXT) {
@@ -83,6 +85,7 @@ fn print_report<K: Sink>(alloc: Global, bytes: &[u8], sink: &mut K) -> Result<()
     ensures done { OnOk result (WritesOne (IsReport bytes.now) (K.written sink.old) (K.written sink.new)) }
     ensures stops { IfErr result (StopsPrint bytes.now (K.written sink.old) (K.written sink.new)) }
     ensures write { (result ≡ Err CheckFault.Write) → FailsToWrite (K.faults sink.old) (K.faults sink.new) (K.took_nothing sink.new) }
+    ensures sink_stayed { (result ≡ Err CheckFault.Write → ⊥) → K.faults sink.new ≡ K.faults sink.old }
 {
     match report(alloc, bytes) {
         Ok(report) => match write_all(sink, report.as_slice()) {
