@@ -49,6 +49,8 @@ pub fn journal<S: Source, K: Sink>(
     ensures read { (result ≡ Err ListFault.Read) → Rose (S.faults source.old) (S.faults source.new) }
     ensures unwritten { (result ≡ Err ListFault.Read) → Keeps (K.written sink.old) (K.written sink.new) }
     ensures write { (result ≡ Err ListFault.Write) → FailsToWrite (K.faults sink.old) (K.faults sink.new) (K.took_nothing sink.new) }
+    ensures source_stayed { OnOk result (S.faults source.new ≡ S.faults source.old) }
+    ensures sink_stayed { (result ≡ Err ListFault.Write → ⊥) → K.faults sink.new ≡ K.faults sink.old }
     ensures bounded { TakesAtMost (S.left source.old) (S.left source.new) (MOST_FILE + 1) }
 {
     match read_up_to(alloc, source, MOST_FILE) {
@@ -64,6 +66,7 @@ fn print_listing<K: Sink>(alloc: Global, file: &[u8], sink: &mut K) -> Result<()
     ensures done { OnOk result (WritesOne (IsListing file.now) (K.written sink.old) (K.written sink.new)) }
     ensures stops { IfErr result (StopsPrinting file.now (K.written sink.old) (K.written sink.new)) }
     ensures write { (result ≡ Err ListFault.Write) → FailsToWrite (K.faults sink.old) (K.faults sink.new) (K.took_nothing sink.new) }
+    ensures sink_stayed { (result ≡ Err ListFault.Write → ⊥) → K.faults sink.new ≡ K.faults sink.old }
 {
     match listing_in(alloc, file) {
         Ok(text) => match write_all(sink, text.as_slice()) {
