@@ -35,7 +35,8 @@ use Rattle.ba_node_steps.specs.Addresses.{message_number, sender_of}
 use Rattle.ba_node_steps.specs.Fits.{HasSpareCounters, IsIdAt, NodeFits}
 use Rattle.ba_node_steps.specs.Histories.{HadCompleted, Happening, HasCounters, HasEndAt, HasEndVerdict, HasOneWord, HasScopeVerdict, IsTold}
 use Rattle.ba_node_steps.specs.Histories.{TellsItsVerdict, atomic_has_one, child_has_one, consequence, input_at, letters_of, node_then}
-use Rattle.ba_node_steps.specs.Histories.{states_of, stops_with, stops_without, tick_at, word_in, word_told}
+use Rattle.ba_node_steps.specs.Histories.{states_of, stops_with, stops_without, tick_at}
+use Rattle.ba_node_steps.specs.WordsTold.{word_in, word_told}
 use Rattle.ba_node_steps.specs.Lawful.{given, ticked}
 use Rattle.ba_node_steps.specs.Node.{Among, NodeState, last, new_node}
 use Rattle.ba_node_steps.specs.Ticks.{TickStep, end_letter, notice_letter, part_letter, register_letter, tick_step}

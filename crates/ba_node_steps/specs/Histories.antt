@@ -1,17 +1,11 @@
 -- Believe: the history of one node: what happens to it, whatever arrives there, and which letters go out meanwhile.
-use Rattle.std.specs.Prelude.{◌≡◌, ◌⊎◌, ℕ, ◌*◌, ◌<◌, ◌^◌, List, [], ◌∷◌, ◌++◌, length, Option, None, Some}
+use Rattle.std.specs.Prelude.{◌≡◌, ℕ, ◌*◌, ◌<◌, ◌^◌, List, [], ◌∷◌, ◌++◌, length, Option, None, Some}
 use Rattle.std.specs.Option.{option_to_list}
 use Rattle.ba_core.specs.declared.identifiers.Id.{Id}
-use Rattle.ba_core.specs.declared.notices.Act.TheVariants as act
-use Rattle.ba_core.specs.declared.notices.Notice.{Notice}
-use Rattle.ba_core.specs.declared.notices.Notice.TheVariants as notice
 use Rattle.ba_core.specs.declared.protocols.Kind.TheVariants.{Atomic}
 use Rattle.ba_core.specs.declared.protocols.Verdict.{Verdict}
-use Rattle.ba_core.specs.declared.protocols.Verdict.TheVariants.{Close, Undo}
 use Rattle.ba_core.specs.declared.states.CState.TheVariants.{Completed}
 use Rattle.ba_message.specs.declared.messages.Letter.{Letter}
-use Rattle.ba_message.specs.declared.messages.Message.{Message}
-use Rattle.ba_message.specs.declared.messages.Message.TheVariants as message
 use Rattle.ba_record.specs.declared.records.Record.{Record}
 use Rattle.ba_scope.specs.Scope.{ScopeState}
 use Rattle.ba_scope_ends.specs.declared.ends.End.{End}
@@ -21,6 +15,7 @@ use Rattle.ba_node_steps.specs.Addresses.{sender_of}
 use Rattle.ba_node_steps.specs.Node.{Among, NodeState, new_node}
 use Rattle.ba_node_steps.specs.Steps.{node_step}
 use Rattle.ba_node_steps.specs.Ticks.{tick_step}
+use Rattle.ba_node_steps.specs.WordsTold.{word_in}
 
 -- ---- what happens
 
@@ -70,17 +65,6 @@ pub record HasCounters (number : ℕ) (past : List Happening) : Type 0 where
   pub few : 2 * length past < 2 ^ 64
 
 -- ---- what a participant is told
-
--- the word that a notice tells
-abbrev pub word_told : Notice → Option Verdict
-word_told notice.Close = Some Close
-word_told notice.Cancel = Some Undo
-word_told notice.Compensate = Some Undo
-word_told n = None
-
-abbrev pub word_in : Message → Option Verdict
-word_in (message.Notice m) = word_told m
-word_in m = None
 
 -- a letter that went out tells the participant of the end with this identifier this word
 pub record IsTold (letters : List Letter) (id : Id) (v : Verdict) : Type 0 where

@@ -11,3 +11,4 @@ pub mod Shown
 pub mod Steps
 pub mod Tellings
 pub mod Ticks
+pub mod WordsTold

@@ -22,13 +22,14 @@ ghost use Rattle.ba_node_steps.specs.Addresses.{HasText, coordinator_of, hyphena
 ghost use Rattle.ba_node_steps.specs.Endpoints.{AllReachable, GivesFit};
 ghost use Rattle.ba_node_steps.specs.Examples.{node_after, after_records, all_written, child_is_made, fails_below, first_base, first_completes, first_node, object, own_choices, register_below, register_of, reply_to, second_exits, second_node, shown_ends, shown_scopes};
 ghost use Rattle.ba_node_steps.specs.Fits.{HasSpareCounters, NodeFits};
-ghost use Rattle.ba_node_steps.specs.Histories.{HadCompleted, Happening, HasCounters, HasEndAt, HasEndVerdict, HasOneWord, HasScopeVerdict, IsTold, TellsItsVerdict, consequence, letters_of, node_then, states_of, word_in};
+ghost use Rattle.ba_node_steps.specs.Histories.{HadCompleted, Happening, HasCounters, HasEndAt, HasEndVerdict, HasOneWord, HasScopeVerdict, IsTold, TellsItsVerdict, consequence, letters_of, node_then, states_of};
 ghost use Rattle.ba_node_steps.specs.Lawful.{AreFew, AreLawful, Event, IsStepOf, Replays, after_record, change, event_of};
 ghost use Rattle.ba_node_steps.specs.Letters.{IsLetterOf};
 ghost use Rattle.ba_node_steps.specs.Node.{Among, NodeState, SameNode, last, new_node};
 ghost use Rattle.ba_node_steps.specs.Tellings.{two_closes, two_undone};
 ghost use Rattle.ba_node_steps.specs.Routing.{identifier_in, identifier_of_text};
 ghost use Rattle.ba_node_steps.specs.Ticks.{tick_step};
+ghost use Rattle.ba_node_steps.specs.WordsTold.{word_in};
 ghost use Rattle.ba_node_steps.specs.declared.answers.Reply.TheVariants as reply;
 ghost use Rattle.ba_node_steps.specs.declared.inputs.Input.TheVariants as input;
 
