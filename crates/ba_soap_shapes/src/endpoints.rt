@@ -244,7 +244,8 @@ pub fn tree_of_epr(alloc: Global, epr: &Epr, name: &Name) -> Result<Tree, Memory
     endpoint_element(alloc, epr, name)
 }
 
-fn endpoint_element(alloc: Global, epr: &Epr, name: &Name) -> Result<Tree, Memory>
+/// The element of that name that holds an endpoint reference, whether or not this product takes such a one.
+pub fn endpoint_element(alloc: Global, epr: &Epr, name: &Name) -> Result<Tree, Memory>
     ensures { IfOk result (λ tree. tree ≡ endpoint_element name.now epr.now) }
 {
     let address = wsa_name(alloc, b"Address".as_slice())?;
