@@ -13,16 +13,33 @@ use Rattle.ba_tree.specs.declared.trees.Tree.{Tree}
 use Rattle.ba_tree.specs.Trees.{name_cmp}
 use Rattle.ba_soap.specs.Elements.{parameter_mark, with_attribute}
 
--- blocks that are put one after another
-pub in_order :
-    (to id relates : List Tree) (action : Tree) (a b c : List Content) → a ≡ map Child to → b ≡ a ++ Child action ∷ []
-    → c ≡ b ++ map Child id
-    → c ++ map Child relates ≡ map Child (to ++ (action ∷ (id ++ relates)))
-in_order to id relates action a b c p q r =
-    ap (λ l. l ++ map Child relates) (r ∙ ap (λ l. l ++ map Child id) (q ∙ ap (λ l. l ++ Child action ∷ []) p))
-    ∙ append_assoc (map Child to ++ Child action ∷ []) (map Child id) (map Child relates)
-    ∙ append_assoc (map Child to) (Child action ∷ []) (map Child id ++ map Child relates)
-    ∙ ap (λ l. map Child to ++ Child action ∷ l) (sym (map-append Child id relates)) ∙ sym (map-append Child to (action ∷ (id ++ relates)))
+-- ---- blocks that are put one after another
+
+pub three_in_order : (to id : List Tree) (action : Tree) (a b : List Content) → a ≡ map Child to → b ≡ a ++ Child action ∷ []
+    → b ++ map Child id ≡ map Child (to ++ (action ∷ id))
+three_in_order to id action a b p q =
+    ap (λ l. l ++ map Child id) (q ∙ ap (λ l. l ++ Child action ∷ []) p)
+    ∙ append_assoc (map Child to) (Child action ∷ []) (map Child id)
+    ∙ sym (map-append Child to (action ∷ id))
+
+pub one_after : (to id more : List Tree) (action : Tree) (a : List Content) → a ≡ map Child (to ++ (action ∷ id))
+    → a ++ map Child more ≡ map Child (to ++ (action ∷ (id ++ more)))
+one_after to id more action a p =
+    ap (λ l. l ++ map Child more) p
+    ∙ sym (map-append Child (to ++ (action ∷ id)) more)
+    ∙ ap (map Child) (append_assoc to (action ∷ id) more)
+
+pub two_after : (to id source more : List Tree) (action : Tree) (a b : List Content) → a ≡ map Child (to ++ (action ∷ id))
+    → b ≡ a ++ map Child source
+    → b ++ map Child more ≡ map Child (to ++ (action ∷ (id ++ (source ++ more))))
+two_after to id source more action a b p q =
+    ap (λ l. l ++ map Child more) q
+    ∙ append_assoc a (map Child source) (map Child more)
+    ∙ ap (λ l. a ++ l) (sym (map-append Child source more))
+    ∙ one_after to id (source ++ more) action a p
+
+pub source_after : (one two : Tree) (a b : List Content) → b ≡ a ++ Child one ∷ [] → b ++ Child two ∷ [] ≡ a ++ map Child (one ∷ two ∷ [])
+source_after one two a b p = ap (λ l. l ++ Child two ∷ []) p ∙ append_assoc a (Child one ∷ []) (Child two ∷ [])
 
 pub before_parameters : (texts parameters : List Tree) (blocks : List Content) → blocks ≡ map Child texts
     → blocks ++ map Child parameters ≡ map Child (texts ++ parameters)

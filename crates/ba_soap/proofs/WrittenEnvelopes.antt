@@ -21,8 +21,10 @@ use Rattle.ba_soap.specs.declared.headers.Header.TheVariants as header
 use Rattle.ba_soap.specs.declared.headers.ReplyTo.TheVariants as reply
 use Rattle.ba_soap.specs.declared.headers.SoapFault.{SoapFault}
 use Rattle.ba_soap.specs.declared.headers.SoapFault.TheVariants as fault
-use Rattle.ba_soap.specs.Elements.{IsPlainEnvelope, envelope_element, header_blocks, is_bare_text, is_none_or_bare, marked_tree}
+use Rattle.ba_soap.specs.Elements.{IsPlainEnvelope, envelope_element, envelope_with, is_bare_text, is_none_or_bare, marked_tree}
 use Rattle.ba_soap.specs.Elements.{optional_block, soap_element, text_block, text_blocks}
+use Rattle.ba_message.specs.Endpoints.{are_unmarked}
+use Rattle.ba_soap.specs.declared.headers.ReplyTo.{ReplyTo}
 use Rattle.ba_soap.specs.Envelopes.{Dialect, action_fault, answer_by_body, answer_by_parts, answer_unless_refused, block_fault}
 use Rattle.ba_soap.specs.Envelopes.{envelope_answer, envelope_said, first_fault, first_invalid_header, first_refusal, has_bad_flag}
 use Rattle.ba_soap.specs.Envelopes.{has_text, header_name, header_of, header_text, invalid_header, is_header, is_looked_at}
@@ -50,7 +52,7 @@ module _ (d : Dialect) (blocks : List Tree) (body : Tree) where
       (children body_part.content) else Err fault.Shape) (same d.space)
       ∙ (λ i. answer_by_body d (children_are blocks i) (children_are (body ∷ []) i))
 
-  by_envelope : envelope_answer d (soap_element d (codes "Envelope") (header_part ∷ body_part ∷ [])) ≡ answer_by_body d blocks (body ∷ [])
+  by_envelope : envelope_answer d (envelope_with d blocks body) ≡ answer_by_body d blocks (body ∷ [])
   by_envelope =
       ap (λ x. if x then answer_by_parts d (children (soap_element d (codes "Envelope")
       (header_part ∷ body_part ∷ [])).content) else Err fault.VersionMismatch) (same d.space)
@@ -88,10 +90,10 @@ module _ (h : Header) (text : List ℕ) (bare : is_bare_text text ≡ true) wher
   there_is : is_there (text_of (text_block h text)) ≡ true
   there_is = ap is_there text_is ∙ first_so (is_there text) (has_bare_ends text) bare
 
-  some_is : Some (text_of (text_block h text)) ≡ Some text
+  pub some_is : Some (text_of (text_block h text)) ≡ Some text
   some_is = ap (λ t. Some t) text_is
 
-  valid : (before : List Tree) → list_any (is_header h) before ≡ false → lacks_address h (text_block h text) ≡ false
+  pub valid : (before : List Tree) → list_any (is_header h) before ≡ false → lacks_address h (text_block h text) ≡ false
       → invalid_header (header_of (text_block h text)) before (text_block h text) ≡ None
   valid before none lacks = ap (λ k. invalid_header k before (text_block h text)) (named h)
       ∙ ap (λ b. if b then Some (fault.InvalidHeader h) else None) ((λ i. (stands_once h && none i) || ((has_text h && not
@@ -115,7 +117,7 @@ module _ (h : Header) (text : List ℕ) (bare : is_bare_text text ≡ true) wher
       quiet header.MessageID = refl
       quiet header.RelatesTo = refl
 
-two : (a b : Option SoapFault) → a ≡ None → b ≡ None → first_fault a b ≡ None
+pub two : (a b : Option SoapFault) → a ≡ None → b ≡ None → first_fault a b ≡ None
 two a b p q = λ i. first_fault (p i) (q i)
 
 -- ---- the texts of headers, each left out or not: eight cases, in each of which the blocks are found by computing
@@ -125,19 +127,19 @@ blocks_of to action id relates =
     optional_block header.To to ++ (text_block header.Action action ∷
     (optional_block header.MessageID id ++ optional_block header.RelatesTo relates))
 
--- all are looked at, none has a flag, none has to be understood, none is a parameter, no reply is wanted elsewhere, and
--- there is an Action
-abbrev AreLooked : Dialect → List Tree → Type 0
-AreLooked d blocks =
+-- all are looked at, none has a flag, none has to be understood, none is a parameter, the reply is wanted there, and there
+-- is an Action
+abbrev pub AreLooked : Dialect → ReplyTo → List Tree → Type 0
+AreLooked d wanted blocks =
     (filter (is_looked_at d) blocks ≡ blocks)
     × (list_any (has_bad_flag d) blocks ≡ false)
     × (list_any (is_not_understood d) blocks ≡ false)
     × (filter is_parameter blocks ≡ [])
-    × (reply_of (find (is_header header.ReplyTo) blocks) ≡ reply.Absent)
+    × (reply_of (find (is_header header.ReplyTo) blocks) ≡ wanted)
     × (action_fault (header_text header.Action blocks) ≡ None)
 
 looked_at_all : (d : Dialect) (to : Option (List ℕ)) (action : List ℕ) (id relates : Option (List ℕ))
-    → AreLooked d (blocks_of to action id relates)
+    → AreLooked d reply.Absent (blocks_of to action id relates)
 looked_at_all d None action None None = (refl, refl, refl, refl, refl, refl)
 looked_at_all d None action None (Some r) = (refl, refl, refl, refl, refl, refl)
 looked_at_all d None action (Some m) None = (refl, refl, refl, refl, refl, refl)
@@ -148,14 +150,14 @@ looked_at_all d (Some t) action (Some m) None = (refl, refl, refl, refl, refl, r
 looked_at_all d (Some t) action (Some m) (Some r) = (refl, refl, refl, refl, refl, refl)
 
 -- their texts are read back
-abbrev AreRead : Option (List ℕ) → List ℕ → Option (List ℕ) → Option (List ℕ) → List Tree → Type 0
+abbrev pub AreRead : Option (List ℕ) → List ℕ → Option (List ℕ) → Option (List ℕ) → List Tree → Type 0
 AreRead to action id relates blocks =
     (header_text header.To blocks ≡ to)
     × (header_text header.Action blocks ≡ Some action)
     × (header_text header.MessageID blocks ≡ id)
     × (option_text (find is_reply_relation blocks) ≡ relates)
 
-abbrev IsBare : List ℕ → Type 0
+abbrev pub IsBare : List ℕ → Type 0
 IsBare text = is_bare_text text ≡ true
 
 module _ (action : List ℕ) (a : IsBare action) where
@@ -220,66 +222,88 @@ module _ (action : List ℕ) (a : IsBare action) where
 neither : (x y : Bool) → x ≡ false → y ≡ false → (x || y) ≡ false
 neither x y p q = λ i. p i || q i
 
-module _ (d : Dialect) (e : Envelope) (plain : IsPlainEnvelope e) where
-  abbrev texts : List Tree
-  texts = text_blocks e
-
+-- an envelope with these blocks that are no parameters, and with its parameters after them
+module _ (d : Dialect) (e : Envelope) (wanted : ReplyTo) (texts : List Tree) (looked : AreLooked d wanted texts)
+    (read : AreRead e.to e.action e.message_id e.relates_to texts) (all_valid : first_invalid_header [] texts ≡ None)
+    (unmarked : are_unmarked e.parameters ≡ true) where
   abbrev parameters : List Tree
   parameters = map marked_tree e.parameters
 
-  looked : AreLooked d texts
-  looked = looked_at_all d e.to e.action e.message_id e.relates_to
+  abbrev blocks : List Tree
+  blocks = texts ++ parameters
 
-  read : AreRead e.to e.action e.message_id e.relates_to texts
-  read = all_read e.action plain.action e.to e.message_id e.relates_to plain.to plain.message_id plain.relates_to
-
-  mine_is : filter (is_looked_at d) (header_blocks e) ≡ texts
+  mine_is : filter (is_looked_at d) blocks ≡ texts
   mine_is =
-      filter-append (is_looked_at d) texts parameters ∙ (λ i. looked.0 i ++ none_looked_at d e.parameters plain.unmarked i)
+      filter-append (is_looked_at d) texts parameters ∙ (λ i. looked.0 i ++ none_looked_at d e.parameters unmarked i)
       ∙ append-nil texts
 
-  parameters_are : map unmarked_tree (filter is_parameter (header_blocks e)) ≡ e.parameters
+  parameters_are : map unmarked_tree (filter is_parameter blocks) ≡ e.parameters
   parameters_are =
       ap (map unmarked_tree) (filter-append is_parameter texts parameters
-      ∙ (λ i. looked.3 i ++ are_parameters e.parameters plain.unmarked i))
-      ∙ are_read_back e.parameters plain.unmarked
+      ∙ (λ i. looked.3 i ++ are_parameters e.parameters unmarked i))
+      ∙ are_read_back e.parameters unmarked
 
-  unflagged : list_any (has_bad_flag d) (header_blocks e) ≡ false
+  unflagged : list_any (has_bad_flag d) blocks ≡ false
   unflagged =
       list_any-append (has_bad_flag d) texts parameters
       ∙ neither (list_any (has_bad_flag d) texts) (list_any (has_bad_flag d) parameters) looked.1
-      (none_flagged d e.parameters plain.unmarked)
+      (none_flagged d e.parameters unmarked)
 
-  understood : list_any (is_not_understood d) (header_blocks e) ≡ false
+  understood : list_any (is_not_understood d) blocks ≡ false
   understood =
       list_any-append (is_not_understood d) texts parameters
       ∙ neither (list_any (is_not_understood d) texts) (list_any (is_not_understood d) parameters) looked.2
-      (none_unknown d e.parameters plain.unmarked)
+      (none_unknown d e.parameters unmarked)
 
-  unrefused : refusal_by d (header_blocks e) texts ≡ None
+  unrefused : refusal_by d blocks texts ≡ None
   unrefused =
-      let valid_all = all_valid e.action plain.action e.to e.message_id e.relates_to plain.to plain.message_id plain.relates_to in
       λ i. first_refusal (
-      (if unflagged i then Some fault.Shape else None) ∷ block_fault (none_at (is_not_understood d) (header_blocks e) understood i)
-      ∷ valid_all i ∷ looked.5 i ∷ []
+      (if unflagged i then Some fault.Shape else None) ∷ block_fault (none_at (is_not_understood d) blocks understood i)
+      ∷ all_valid i ∷ looked.5 i ∷ []
       )
 
-  said : envelope_said (header_blocks e) texts e.body ≡ e
+  abbrev said_elsewhere : Envelope
+  said_elsewhere = record {
+    to = e.to;
+    action = e.action;
+    message_id = e.message_id;
+    relates_to = e.relates_to;
+    reply = wanted;
+    parameters = e.parameters;
+    body = e.body;
+  }
+
+  said : envelope_said blocks texts e.body ≡ said_elsewhere
   said = λ i. record {
     to = read.0 i;
     action = text_or_none (read.1 i);
     message_id = read.2 i;
     relates_to = read.3 i;
-    reply = (looked.4 ∙ sym plain.reply) i;
+    reply = looked.4 i;
     parameters = parameters_are i;
     body = e.body;
   }
 
-  pub reads_back : envelope_answer d (envelope_element d e) ≡ Ok e
-  reads_back =
-      by_envelope d (header_blocks e) e.body
-      ∙ (λ i. answer_unless_refused (refusal_by d (header_blocks e) (mine_is i)) (envelope_said (header_blocks e) (mine_is i) e.body))
+  pub blocks_are_read : envelope_answer d (envelope_with d blocks e.body) ≡ Ok said_elsewhere
+  blocks_are_read =
+      by_envelope d blocks e.body
+      ∙ (λ i. answer_unless_refused (refusal_by d blocks (mine_is i)) (envelope_said blocks (mine_is i) e.body))
       ∙ (λ i. answer_unless_refused (unrefused i) (said i))
+
+pub reads_back : (d : Dialect) (e : Envelope) → IsPlainEnvelope e → envelope_answer d (envelope_element d e) ≡ Ok e
+reads_back d e plain =
+    blocks_are_read d e reply.Absent (text_blocks e) (looked_at_all d e.to e.action e.message_id e.relates_to)
+    (all_read e.action plain.action e.to e.message_id e.relates_to plain.to plain.message_id plain.relates_to)
+    (all_valid e.action plain.action e.to e.message_id e.relates_to plain.to plain.message_id plain.relates_to) plain.unmarked
+    ∙ (λ i. Ok (record {
+      to = e.to;
+      action = e.action;
+      message_id = e.message_id;
+      relates_to = e.relates_to;
+      reply = sym plain.reply i;
+      parameters = e.parameters;
+      body = e.body;
+    }))
 
 pub ok_reads_back :
     (d : Dialect) (e : Envelope) (r : Result Tree Memory) → IfOk r (λ t. t ≡ envelope_element d e) → IsPlainEnvelope e

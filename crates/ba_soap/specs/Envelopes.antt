@@ -15,6 +15,8 @@ use Rattle.ba_soap.specs.declared.headers.ReplyTo.TheVariants as reply
 use Rattle.ba_soap.specs.declared.headers.SoapFault.{SoapFault}
 use Rattle.ba_soap.specs.declared.headers.SoapFault.TheVariants as fault
 use Rattle.ba_soap.specs.declared.headers.Envelope.{Envelope}
+use Rattle.ba_soap.specs.declared.version.Version.{Version}
+use Rattle.ba_soap.specs.declared.version.Version.TheVariants as version
 use Rattle.ba_soap_shapes.specs.Elements.{children, in_u32, text_of}
 use Rattle.ba_soap_shapes.specs.Endpoints.{address_line, child_at, text_in, unmarked_tree}
 use Rattle.ba_soap_shapes.specs.Forms.{is_there}
@@ -40,6 +42,10 @@ soap11 = record {
   role = codes "actor";
   ours = [] ∷ codes "http://schemas.xmlsoap.org/soap/actor/next" ∷ [];
 }
+
+-- the sheet of each version
+abbrev pub dialect_of : Version → Dialect
+dialect_of version.Soap11 = soap11
 
 -- ---- attributes
 
