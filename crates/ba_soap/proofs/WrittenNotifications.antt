@@ -77,7 +77,8 @@ module _ (source : Epr) (action : List ℕ) (a : IsBare action) where
   notification_read (Some x) None None p q r = (some_is header.To x p, act, refl, refl)
   notification_read (Some x) None (Some z) p q r = (some_is header.To x p, act, refl, some_is header.RelatesTo z r)
   notification_read (Some x) (Some y) None p q r = (some_is header.To x p, act, some_is header.MessageID y q, refl)
-  notification_read (Some x) (Some y) (Some z) p q r = (some_is header.To x p, act, some_is header.MessageID y q, some_is header.RelatesTo z r)
+  notification_read (Some x) (Some y) (Some z) p q r =
+      (some_is header.To x p, act, some_is header.MessageID y q, some_is header.RelatesTo z r)
 
 -- ---- each block is valid after those before it
 

@@ -1,4 +1,5 @@
--- Believe: this is the envelope that is written of a route and a message, and these have one that is read back.
+-- Believe: this is the envelope that is written of a route and a message, and the letter that a node sends of them; and
+-- these have one that is read back.
 use Rattle.std.specs.Prelude.{ℕ, Bool, true, false, not, ◌&&◌, ◌||◌, List, ◌++◌, Option, Some, None, IsTrue, is_some, codes}
 use Rattle.ba_core.specs.declared.codes.Code.{Code}
 use Rattle.ba_core.specs.declared.codes.Code.TheVariants as code
@@ -7,12 +8,13 @@ use Rattle.ba_core.specs.declared.notices.Notice.TheVariants as notice
 use Rattle.ba_core.specs.declared.states.StateName.{StateName}
 use Rattle.ba_core.specs.declared.states.StateName.TheVariants as state
 use Rattle.ba_message.specs.Endpoints.{Fits, are_unmarked}
+use Rattle.ba_message.specs.declared.endpoints.Epr.{Epr}
 use Rattle.ba_message.specs.declared.messages.Context.{Context}
 use Rattle.ba_message.specs.declared.messages.Message.{Message}
 use Rattle.ba_message.specs.declared.messages.Message.TheVariants as message
 use Rattle.ba_soap.specs.declared.headers.Envelope.{Envelope}
 use Rattle.ba_soap.specs.declared.headers.ReplyTo.TheVariants as reply
-use Rattle.ba_soap.specs.Elements.{envelope_element, is_bare_text, is_none_or_bare}
+use Rattle.ba_soap.specs.Elements.{envelope_element, is_bare_text, is_none_or_bare, notification_element}
 use Rattle.ba_soap.specs.Envelopes.{soap11}
 use Rattle.ba_tree.specs.declared.trees.Tree.{Tree}
 use Rattle.ba_tree.specs.Namespaces.{wsa_space, wscoor_space}
@@ -57,6 +59,22 @@ envelope_tree r m = envelope_element soap11 (envelope_of r m)
 -- the canonical text of an envelope
 abbrev pub envelope_text : Route → Message → List ℕ
 envelope_text r m = one_text (envelope_tree r m)
+
+-- ---- letters
+
+-- the envelope of a notice says whose it is, and that it has no reply (WS-BusinessActivity 1.2, on the use of
+-- WS-Addressing headers)
+abbrev pub notice_tree : Epr → Route → Message → Tree
+notice_tree source r m = notification_element soap11 source (envelope_of r m)
+
+-- what a node sends of itself: a notice, or a Register, which wants a reply and is written as any other envelope
+abbrev pub letter_tree : Epr → Route → Message → Tree
+letter_tree source r (message.Notice n) = notice_tree source r (message.Notice n)
+letter_tree source r m = envelope_tree r m
+
+-- the canonical text of a letter from this endpoint
+abbrev pub letter_text : Epr → Route → Message → List ℕ
+letter_text source r m = one_text (letter_tree source r m)
 
 -- ---- which messages name what this project knows
 
@@ -123,6 +141,11 @@ pub record HasEnvelope (r : Route) (m : Message) : Type 0 where
 pub record CanEncode (r : Route) (m : Message) : Type 0 where
   pub envelope : HasEnvelope r m
   pub writable : IsWritable (envelope_tree r m)
+
+-- and whose letter from this endpoint keeps them
+pub record CanEncodeLetter (source : Epr) (r : Route) (m : Message) : Type 0 where
+  pub envelope : HasEnvelope r m
+  pub writable : IsWritable (letter_tree source r m)
 
 -- who asks for a reply gives a MessageID
 abbrev pub is_numbered : Route → Message → Bool

@@ -3,6 +3,7 @@ ghost use Rattle.std.specs.Prelude.{◌≡◌, ℕ, IfOk, map, find};
 ghost use Rattle.ba_soap_shapes.specs.Shapes.{line_of};
 ghost use Rattle.ba_wire.specs.Bodies.{body_look, message_of, lines_of_body};
 ghost use Rattle.ba_wire.specs.Actions.{action_of, bodies, element_uri, has_action, body_name, body_of, body_space};
+ghost use Rattle.ba_wire.specs.Elements.{body_of_notice};
 ghost use Rattle.ba_wire.specs.Meaning.{asks_for_reply};
 ghost use Rattle.ba_wire.specs.declared.bodies.Body.TheVariants as body;
 
@@ -219,16 +220,11 @@ impl Body {
         ensures { result ≡ has_action uri.now (action_of self) }
     {
         match self {
-            Body::Create => uri
-                == b"http://docs.oasis-open.org/ws-tx/wscoor/2006/06/CreateCoordinationContext".as_slice(),
-            Body::Created => uri
-                == b"http://docs.oasis-open.org/ws-tx/wscoor/2006/06/CreateCoordinationContextResponse".as_slice(),
-            Body::Register => uri
-                == b"http://docs.oasis-open.org/ws-tx/wscoor/2006/06/Register".as_slice(),
-            Body::Registered => uri
-                == b"http://docs.oasis-open.org/ws-tx/wscoor/2006/06/RegisterResponse".as_slice(),
-            Body::Status => uri
-                == b"http://docs.oasis-open.org/ws-tx/wsba/2006/06/Status".as_slice(),
+            Body::Create => uri == CREATE_ACTION,
+            Body::Created => uri == CREATED_ACTION,
+            Body::Register => uri == REGISTER_ACTION,
+            Body::Registered => uri == REGISTERED_ACTION,
+            Body::Status => uri == STATUS_ACTION,
             Body::Notice(notice) => uri == notice_action(notice),
             Body::Fault => false,
         }
@@ -241,6 +237,19 @@ impl Body {
         BODIES.iter().copied().find(|body| body.has_action(uri))
     }
 }
+
+pub const CREATE_ACTION: &[u8] =
+    b"http://docs.oasis-open.org/ws-tx/wscoor/2006/06/CreateCoordinationContext";
+
+pub const CREATED_ACTION: &[u8] =
+    b"http://docs.oasis-open.org/ws-tx/wscoor/2006/06/CreateCoordinationContextResponse";
+
+pub const REGISTER_ACTION: &[u8] = b"http://docs.oasis-open.org/ws-tx/wscoor/2006/06/Register";
+
+pub const REGISTERED_ACTION: &[u8] =
+    b"http://docs.oasis-open.org/ws-tx/wscoor/2006/06/RegisterResponse";
+
+const STATUS_ACTION: &[u8] = b"http://docs.oasis-open.org/ws-tx/wsba/2006/06/Status";
 
 const BODIES: [Body; 20] = [
     Body::Notice(Notice::Complete),
@@ -265,8 +274,10 @@ const BODIES: [Body; 20] = [
     Body::Registered,
 ];
 
-fn notice_action(notice: Notice) -> &'static [u8]
-    ensures { result.now ≡ element_uri (body.Notice notice) }
+/// The action of a notice.
+pub fn notice_action(notice: Notice) -> &'static [u8]
+    ensures element { result.now ≡ element_uri (body.Notice notice) }
+    ensures message { result.now ≡ element_uri (body_of_notice notice) }
 {
     match notice {
         Notice::Complete => b"http://docs.oasis-open.org/ws-tx/wsba/2006/06/Complete",
@@ -284,7 +295,7 @@ fn notice_action(notice: Notice) -> &'static [u8]
         Notice::Exit => b"http://docs.oasis-open.org/ws-tx/wsba/2006/06/Exit",
         Notice::CannotComplete => b"http://docs.oasis-open.org/ws-tx/wsba/2006/06/CannotComplete",
         Notice::GetStatus => b"http://docs.oasis-open.org/ws-tx/wsba/2006/06/GetStatus",
-        Notice::Status(_) => b"http://docs.oasis-open.org/ws-tx/wsba/2006/06/Status",
+        Notice::Status(_) => STATUS_ACTION,
     }
 }
 

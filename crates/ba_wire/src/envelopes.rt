@@ -1,19 +1,21 @@
 //! Messages in envelopes: writing, and texts both ways.
 ghost use Rattle.std.specs.Prelude.{◌≡◌, ◌++◌, IfOk, IsTrue, is_some, map};
 ghost use Rattle.ba_message.specs.Endpoints.{Fits};
-ghost use Rattle.ba_soap.specs.Elements.{envelope_element};
+ghost use Rattle.ba_soap.specs.Elements.{envelope_element, notification_element};
 ghost use Rattle.ba_soap.specs.Envelopes.{soap11};
 ghost use Rattle.ba_wire.specs.Actions.{body_name, element_uri};
 ghost use Rattle.ba_wire.specs.Elements.{body_of_message};
 ghost use Rattle.ba_xml_writer.specs.OneText.{one_text};
-ghost use Rattle.ba_wire.specs.Envelopes.{CanEncode, EndpointsFit, HasEnvelope, action_for, envelope_of, envelope_text, envelope_tree, fault_action, is_known, is_known_code, is_known_context, has_known_state, is_known_state};
+ghost use Rattle.ba_wire.specs.Envelopes.{CanEncode, CanEncodeLetter, EndpointsFit, HasEnvelope, action_for, envelope_of, envelope_text, envelope_tree, fault_action, is_known, is_known_code, is_known_context, has_known_state, is_known_state, letter_text, letter_tree, notice_tree};
 
-use crate::bodies::Body;
+use crate::bodies::{
+    Body, CREATE_ACTION, CREATED_ACTION, REGISTER_ACTION, REGISTERED_ACTION, notice_action,
+};
 use crate::elements::{Family, body_element};
 use crate::routes::Route;
 use ba_core::{Code, List, Memory, Notice, Octets, StateName};
-use ba_message::{Context, Message};
-use ba_soap::{Envelope, ReplyTo, write_envelope};
+use ba_message::{Context, Epr, Message};
+use ba_soap::{Envelope, ReplyTo, Soap11, write_envelope, write_notification};
 use ba_tree::Tree;
 use ba_xml::write;
 use std::alloc::Global;
@@ -83,19 +85,25 @@ fn fault_action(family: Family) -> &'static [u8]
     }
 }
 
-fn action_for(alloc: Global, message: &Message) -> Result<Octets, Memory>
+/// The action of a message, which a SOAPAction repeats: that of its body, or of faults by whose code it is.
+pub fn action_of(message: &Message) -> &'static [u8]
+    ensures { result.now ≡ action_for message.now }
+{
+    match message {
+        Message::Create { .. } => CREATE_ACTION,
+        Message::Created(_) => CREATED_ACTION,
+        Message::Register { .. } => REGISTER_ACTION,
+        Message::Registered(_) => REGISTERED_ACTION,
+        Message::Notice(notice) => notice_action(*notice),
+        Message::Fault(code) => fault_action(Family::of(*code)),
+    }
+}
+
+fn copy_action(alloc: Global, message: &Message) -> Result<Octets, Memory>
     ensures { IfOk result (λ action. action ≡ action_for message.now) }
 {
     let mut action = List::new(alloc);
-    match message {
-        Message::Fault(code) => action.append(fault_action(Family::of(*code)))?,
-        _ => {
-            let body = Body::of_message(message);
-            action.append(body.space())?;
-            action.append(b"/")?;
-            action.append(body.name())?;
-        }
-    }
+    action.append(action_of(message))?;
     Ok(action)
 }
 
@@ -127,7 +135,7 @@ fn envelope_of(alloc: Global, route: &Route, message: &Message) -> Result<Envelo
 {
     Ok(Envelope {
         to: copy_text(&route.to)?,
-        action: action_for(alloc, message)?,
+        action: copy_action(alloc, message)?,
         message_id: copy_text(&route.message_id)?,
         relates_to: copy_text(&route.relates_to)?,
         reply: ReplyTo::Absent,
@@ -151,6 +159,49 @@ pub fn encode(alloc: Global, route: &Route, message: &Message) -> Result<Octets,
     ensures { IfOk result (λ text. text ≡ envelope_text route.now message.now) }
 {
     let tree = envelope_tree(alloc, route, message)?;
+    text_of(alloc, &tree)
+}
+
+/// The element of a letter from an endpoint: a notice says whose it is, and that no reply is wanted; a Register is in its
+/// envelope as it is.
+pub fn letter_tree(
+    alloc: Global,
+    source: &Epr,
+    route: &Route,
+    message: &Message,
+) -> Result<Tree, Memory>
+    requires { HasEnvelope route.now message.now }
+    ensures { IfOk result (λ tree. tree ≡ letter_tree source.now route.now message.now) }
+{
+    match message {
+        Message::Notice(_) => notice_tree(alloc, source, route, message),
+        Message::Create { .. }
+        | Message::Created(_)
+        | Message::Register { .. }
+        | Message::Registered(_)
+        | Message::Fault(_) => envelope_tree(alloc, route, message),
+    }
+}
+
+fn notice_tree(alloc: Global, source: &Epr, route: &Route, notice: &Message) -> Result<Tree, Memory>
+    requires { HasEnvelope route.now notice.now }
+    ensures { IfOk result (λ tree. tree ≡ notice_tree source.now route.now notice.now) }
+{
+    let envelope = envelope_of(alloc, route, notice)?;
+    write_notification(alloc, &Soap11, source, &envelope)
+}
+
+/// The canonical text of a letter from an endpoint.
+pub fn encode_letter(
+    alloc: Global,
+    source: &Epr,
+    route: &Route,
+    message: &Message,
+) -> Result<Octets, Memory>
+    requires { CanEncodeLetter source.now route.now message.now }
+    ensures { IfOk result (λ text. text ≡ letter_text source.now route.now message.now) }
+{
+    let tree = letter_tree(alloc, source, route, message)?;
     text_of(alloc, &tree)
 }
 
