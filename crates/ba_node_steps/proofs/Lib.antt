@@ -11,6 +11,7 @@ pub mod Members
 pub mod NodeKept
 pub mod Objects
 pub mod Own
+pub mod OwnAddresses
 pub mod PathBytes
 pub mod Places
 pub mod RecordsGive
@@ -22,3 +23,4 @@ pub mod ScopesGo
 pub mod StepsFit
 pub mod TellingLemmas
 pub mod Unchanged
+pub mod WhatIsSaid

@@ -7,6 +7,7 @@ pub mod Lawful
 pub mod Letters
 pub mod Node
 pub mod Routing
+pub mod Replies
 pub mod Shown
 pub mod Steps
 pub mod Tellings

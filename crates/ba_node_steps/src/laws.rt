@@ -11,9 +11,12 @@ ghost use Rattle.ba_core.specs.declared.protocols.Verdict.TheVariants.{Close, Un
 ghost use Rattle.ba_core.specs.declared.states.CState.TheVariants as end;
 ghost use Rattle.ba_core.specs.declared.states.How.TheVariants.{Failed};
 ghost use Rattle.ba_core.specs.declared.states.PState.TheVariants as part;
+ghost use Rattle.ba_message.specs.Letters.{IsPostable};
+ghost use Rattle.ba_message.specs.declared.addresses.TheConstants.{MOST_ADDRESS_BYTES};
 ghost use Rattle.ba_message.specs.declared.messages.Letter.{Letter};
 ghost use Rattle.ba_message.specs.declared.messages.Message.TheVariants as message;
 ghost use Rattle.ba_record.specs.Coding.{InRange};
+ghost use Rattle.ba_record.specs.Endpoints.{IsBase};
 ghost use Rattle.ba_record.specs.declared.records.Record.{Record};
 ghost use Rattle.ba_scope.specs.Scope.{ScopeState};
 ghost use Rattle.ba_scope_ends.specs.declared.ends.End.{End};
@@ -28,10 +31,13 @@ ghost use Rattle.ba_node_steps.specs.Letters.{IsLetterOf};
 ghost use Rattle.ba_node_steps.specs.Node.{Among, NodeState, SameNode, last, new_node};
 ghost use Rattle.ba_node_steps.specs.Tellings.{two_closes, two_undone};
 ghost use Rattle.ba_node_steps.specs.Routing.{identifier_in, identifier_of_text};
+ghost use Rattle.ba_node_steps.specs.Replies.{HasFitTime, IsAnswerable};
+ghost use Rattle.ba_node_steps.specs.Steps.{node_step};
 ghost use Rattle.ba_node_steps.specs.Ticks.{tick_step};
 ghost use Rattle.ba_node_steps.specs.WordsTold.{word_in};
 ghost use Rattle.ba_node_steps.specs.declared.answers.Reply.TheVariants as reply;
 ghost use Rattle.ba_node_steps.specs.declared.inputs.Input.TheVariants as input;
+ghost use Rattle.ba_node_steps.specs.declared.inputs.Input.{Input};
 
 /// A step that keeps no record leaves the node as it is, and one that leaves it so keeps none.
 pub fn steps_without_a_record_change_nothing()
@@ -193,4 +199,16 @@ pub fn each_node_keeps_its_word()
         × IsTold (letters_of 1 first_base two_closes) (object 1 3) Close }
     ensures undo { HasCounters 1 two_undone × IsTold (letters_of 1 first_base two_undone) (object 1 2) Undo
         × IsTold (letters_of 1 first_base two_undone) (object 1 3) Undo }
+{}
+
+/// A base has at most 268 bytes: its scheme, a host, and a port. So each leaves room in an address for the path of an object.
+pub fn bases_are_short()
+    ensures short { (base : List ℕ) → IsBase base → length base ≤ 268 }
+    ensures room { (base : List ℕ) → IsBase base → (id : Id) → length (registration_of base id).address ≤ MOST_ADDRESS_BYTES }
+{}
+
+/// What a node says can be written as an envelope: its letters, and its replies that are messages.
+pub fn what_a_node_says_can_be_written()
+    ensures letters { (n : NodeState) (id : Id) (l : Letter) → IsBase n.base → IsLetterOf n id l → IsPostable l }
+    ensures replies { (n : NodeState) (now : ℕ) (i : Input) → IsBase n.base → HasFitTime i → IsAnswerable (node_step n now i).reply }
 {}
