@@ -1,3 +1,4 @@
+pub mod Befores
 pub mod BlockReads
 pub mod Ends
 pub mod FrameFronts
@@ -9,7 +10,6 @@ pub mod Looking
 pub mod Meanings
 pub mod NewFile
 pub mod OneMore
-pub mod Paid
 pub mod ReadingOf
 pub mod Sizes
 pub mod Turns

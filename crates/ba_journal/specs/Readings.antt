@@ -1,12 +1,13 @@
 -- Believe: what a load finds in a journal's file, and that this is a function of its bytes.
-use Rattle.std.specs.Prelude.{◌≡◌, ◌≢◌, ℕ, suc, zero, ◌+◌, ◌-◌, ◌*◌, ◌<◌, ◌≤◌, ◌^◌, true, if◌then◌else◌, nat_eq, List, [], ◌∷◌, length}
+use Rattle.std.specs.Prelude.{◌≡◌, ◌≢◌, ℕ, suc, zero, ◌+◌, ◌-◌, ◌<◌, ◌^◌, true, if◌then◌else◌, nat_eq, List, [], ◌∷◌, length}
 use Rattle.std.specs.Prelude.{drop, Option, None, Some, Result, Ok, Err}
 use Rattle.std.specs.List.{AllByRecursion}
-use Rattle.ba_record.specs.Coding.{InRange}
+use Rattle.ba_record.specs.Coding.{InRange, coding}
 use Rattle.ba_record.specs.Reading.{reading}
 use Rattle.ba_record.specs.declared.records.Record.{Record}
 use Rattle.ba_record.specs.declared.records.RecordFault.{RecordFault}
 use Rattle.ba_journal.specs.Frames.{is_fresh, frame_of, Holds}
+use Rattle.ba_journal.specs.declared.loads.TheConstants.{FIRST_GATE}
 use Rattle.ba_journal.specs.declared.readings.Reading.{Reading}
 use Rattle.ba_journal.specs.declared.readings.Reading.TheVariants.{Fresh, Found}
 use Rattle.ba_journal.specs.declared.readings.Tail.{Tail}
@@ -32,14 +33,23 @@ abbrev pub IsWithin : Reading → Type 0
 IsWithin Fresh = Unit {0}
 IsWithin (Found records gate tail) = gate + 1 < 2 ^ 64
 
--- each record is in its ranges, and costs six bytes of the file at least: a gate, the size in four, and a payload
-abbrev pub ArePaid : List Record → ℕ → Type 0
-ArePaid records gate = AllByRecursion InRange records × (16 + 6 * length records ≤ gate)
+-- how many bytes the frames of these records have: of each a gate, the size in four, and the coding
+abbrev pub frames_length : List Record → ℕ
+frames_length [] = 0
+frames_length (r ∷ records) = (5 + length (coding r)) + frames_length records
+
+-- the place of the gate after them
+abbrev pub last_gate : List Record → ℕ
+last_gate records = FIRST_GATE + frames_length records
+
+-- each record is in its ranges, and the gate stands after their frames
+abbrev pub AreBefore : List Record → ℕ → Type 0
+AreBefore records gate = AllByRecursion InRange records × (gate ≡ last_gate records)
 
 -- so much holds of what was read, whatever the disk
-abbrev pub IsPaid : Reading → Type 0
-IsPaid Fresh = Unit {0}
-IsPaid (Found records gate tail) = ArePaid records gate
+abbrev pub IsAfterRecords : Reading → Type 0
+IsAfterRecords Fresh = Unit {0}
+IsAfterRecords (Found records gate tail) = AreBefore records gate
 
 -- What is found in a file, computed from its bytes
 

@@ -1,12 +1,11 @@
 //! The journal of a node on its disk.
-ghost use Rattle.std.specs.Prelude.{◌≡◌, ◌≢◌, ◌↔◌, ◌+◌, ◌*◌, ◌<◌, ◌≤◌, ◌^◌, ◌++◌, [], ◌∷◌, ℕ, List as Items, None, Some, Err, length, max, IsTrue, IfOk, IfErr, OnOk, OnErr};
+ghost use Rattle.std.specs.Prelude.{◌≡◌, ◌≢◌, ◌↔◌, ◌+◌, ◌<◌, ◌≤◌, ◌^◌, ◌++◌, [], ◌∷◌, ℕ, List as Items, None, Some, Err, length, max, IsTrue, IfOk, IfErr, OnOk, OnErr};
 ghost use Rattle.std.specs.List.{AllByRecursion};
 ghost use Rattle.ba_journal.specs.Journals.{Asked, GoesPast, IsSettled, StandsWithOrWithout, behind_gate};
 ghost use Rattle.ba_journal.specs.declared.faults.JournalFault.TheVariants as fault;
 ghost use Rattle.ba_journal.specs.Frames.{IsNoJournal, StandsFor};
 ghost use Rattle.ba_journal.specs.Loads.{IsOpenedAs, Loaded, MayStandSince, answer_of, disk_of};
-ghost use Rattle.ba_journal.specs.Readings.{ReadsAs};
-ghost use Rattle.ba_journal.specs.declared.loads.TheConstants.{FIRST_GATE};
+ghost use Rattle.ba_journal.specs.Readings.{ReadsAs, last_gate};
 ghost use Rattle.ba_ports.specs.Causes.{Rose};
 ghost use Rattle.ba_ports.specs.Disk.{LeavesOnly, fail, stop, nothing};
 ghost use Rattle.ba_ports.specs.declared.requests.Call.{Call};
@@ -71,7 +70,8 @@ impl<D: Disk> Journal<D> {
 
         // What is answered, whatever the disk.
         ensures in_range { IfOk result (λ loaded. AllByRecursion InRange loaded.1) }
-        ensures paid { IfOk result (λ loaded. (FIRST_GATE + 6 * length loaded.1 ≤ loaded.0.gate) × (loaded.0.gate < 2 ^ 64)) }
+        ensures end { IfOk result (λ loaded. loaded.0.gate ≡ last_gate loaded.1) }
+        ensures small { IfOk result (λ loaded. loaded.0.gate < 2 ^ 64) }
         ensures opened { IfOk result (λ loaded. loaded.0.closed ≡ None) }
         ensures not_full { IfErr result (λ refused. refused.1 ≢ fault.Full) }
         ensures not_closed { IfErr result (λ refused. (count : ℕ) → refused.1 ≢ fault.Closed count) }

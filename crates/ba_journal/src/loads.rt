@@ -4,7 +4,7 @@ ghost use Rattle.std.specs.Prelude.{◌≡◌, ◌≢◌, ◌+◌, ◌<◌, ◌�
 ghost use Rattle.ba_journal.specs.Journals.{IsSettled};
 ghost use Rattle.ba_journal.specs.Frames.{IsNoJournal, StandsFor};
 ghost use Rattle.ba_journal.specs.Loads.{IsOpenedAs, Loaded, MayStandSince, StandAlike, settling};
-ghost use Rattle.ba_journal.specs.Readings.{ArePaid, IsPaid, IsWithin, ReadsAs};
+ghost use Rattle.ba_journal.specs.Readings.{AreBefore, IsAfterRecords, IsWithin, ReadsAs};
 ghost use Rattle.ba_journal.specs.declared.faults.JournalFault.TheVariants as fault;
 ghost use Rattle.ba_ports.specs.Causes.{HasCause, Rose};
 ghost use Rattle.ba_ports.specs.Disk.{InTurn, LeavesOnly, Only};
@@ -37,7 +37,7 @@ pub fn open_file<D: Disk>(alloc: Global, disk: &mut D) -> Result<(u64, List<Reco
     ensures not_closed { (count : ℕ) → result ≢ Err (fault.Closed count) }
     ensures cause { (result ≡ Err fault.Disk) → Rose (D.faults disk.old) (D.faults disk.new) }
     ensures faults { D.faults disk.old ≤ D.faults disk.new }
-    ensures paid { IfOk result (λ opened. ArePaid opened.1 opened.0) }
+    ensures end { IfOk result (λ opened. AreBefore opened.1 opened.0) }
     ensures small { IfOk result (λ opened. opened.0 + 1 < 2 ^ 64) }
 {
     if disk.sync().is_err() {
@@ -58,14 +58,14 @@ fn settle<D: Disk>(
 ) -> Result<(u64, List<Record>), Failed>
     requires found { IsTrue (D.follows disk.old) → ReadsAs (D.seen disk.old) found }
     requires within { IsWithin found }
-    requires paid { IsPaid found }
+    requires end { IsAfterRecords found }
     ensures records { IsTrue (D.follows disk.old) → IfOk result (λ opened. StandsFor (D.seen disk.old) opened.1) }
     ensures settled { IsTrue (D.follows disk.old) → Only (D.seen disk.old) (D.may_leave disk.old)
         → IfOk result (λ opened. IsSettled D.seen D.may_leave disk.new opened.0 opened.1) }
     ensures any_moment { IsTrue (D.follows disk.old) → Only (D.seen disk.old) (D.may_leave disk.old)
         → LeavesOnly D.later D.left_between disk.old disk.new (StandAlike (D.seen disk.old)) }
     ensures opened { IfOk result (λ opened. IsOpenedAs opened.0 opened.1 found) }
-    ensures paid { IfOk result (λ opened. ArePaid opened.1 opened.0) }
+    ensures end { IfOk result (λ opened. AreBefore opened.1 opened.0) }
     ensures small { IfOk result (λ opened. opened.0 + 1 < 2 ^ 64) }
     ensures calls { (calls : Items Call) × D.driven disk.old calls disk.new × InTurn (settling found) (is_err result) calls }
     ensures follows { D.follows disk.new ≡ D.follows disk.old }

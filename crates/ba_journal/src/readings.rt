@@ -3,7 +3,7 @@ ghost use Rattle.std.specs.Prelude.{◌≡◌, ◌≢◌, ◌≤◌, ◌<◌, �
 ghost use Rattle.ba_journal.specs.inside.Blocks.{frame_front, Begins, BeginsFrames, Counts, IsOfReading, RefusesFile, RefusesShown};
 ghost use Rattle.ba_journal.specs.Frames.{frame_of, IsNoJournal};
 ghost use Rattle.ba_journal.specs.inside.Looks.{BreaksOff, Looked};
-ghost use Rattle.ba_journal.specs.Readings.{IsPaid, IsTail, IsWithin, ReadsAs};
+ghost use Rattle.ba_journal.specs.Readings.{IsAfterRecords, IsTail, IsWithin, ReadsAs};
 ghost use Rattle.ba_journal.specs.declared.faults.JournalFault.TheVariants as fault;
 ghost use Rattle.ba_ports.specs.Causes.{Rose};
 ghost use Rattle.ba_ports.specs.Disk.{LeavesOnly, NoMore, counted};
@@ -65,7 +65,7 @@ pub fn read_file<D: Disk>(alloc: Global, disk: &mut D) -> Result<Reading, Journa
     ensures not_full { result ≢ Err fault.Full }
     ensures not_closed { (count : ℕ) → result ≢ Err (fault.Closed count) }
     ensures within { IfOk result IsWithin }
-    ensures paid { IfOk result IsPaid }
+    ensures end { IfOk result IsAfterRecords }
 {
     read_all(alloc, disk)
 }
@@ -79,7 +79,7 @@ fn read_all<D: Disk>(alloc: Global, disk: &mut D) -> Result<Reading, JournalFaul
     ensures broke_off { (result ≡ Err fault.Disk) → BreaksOff D.driven disk.old disk.new }
     ensures known { IfErr result IsOfReading }
     ensures within { IfOk result IsWithin }
-    ensures paid { IfOk result IsPaid }
+    ensures end { IfOk result IsAfterRecords }
 {
     let Ok(len) = length_of(disk) else {
         return Err(JournalFault::Disk);
@@ -106,7 +106,7 @@ fn read_frames<D: Disk>(
     disk: &mut D,
     mut blocks: Blocks,
 ) -> Result<Reading, JournalFault>
-    requires begun { 16 ≤ blocks.place }
+    requires begun { blocks.place ≡ 16 }
     requires small { blocks.place + 1 < 2 ^ 64 }
     ensures ok { IsTrue (D.follows disk.old) → BeginsFrames (D.seen disk.old) blocks → IfOk result (ReadsAs (D.seen disk.old)) }
     ensures refused { IsTrue (D.follows disk.old) → BeginsFrames (D.seen disk.old) blocks → IfErr result (RefusesFile (D.seen disk.old)) }
@@ -115,7 +115,7 @@ fn read_frames<D: Disk>(
     ensures broke_off { (result ≡ Err fault.Disk) → BreaksOff D.driven disk.old disk.new }
     ensures known { IfErr result IsOfReading }
     ensures within { IfOk result IsWithin }
-    ensures paid { IfOk result IsPaid }
+    ensures end { IfOk result IsAfterRecords }
 {
     let mut records: List<Record> = List::new(alloc);
     'frames: loop {

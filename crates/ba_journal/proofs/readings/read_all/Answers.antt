@@ -1,4 +1,4 @@
-use Rattle.std.proofs.Common.{◌≡◌, ◌-◌, ◌≤◌, false, min, take, List, length, ℕ, sym, subst, ap, ◌∙◌, arith, IsTrue, IfOk, IfErr}
+use Rattle.std.proofs.Common.{◌≡◌, ◌-◌, ◌+◌, ◌≤◌, false, min, take, List, length, ℕ, sym, subst, ap, ◌∙◌, arith, IsTrue, IfOk, IfErr}
 use Rattle.ba_journal.specs.inside.Blocks.{AtHand, IsOf, BeginsFrames, RefusesFile, frame_front}
 use Rattle.ba_journal.specs.Frames.{header, is_fresh, IsForeign}
 use Rattle.ba_journal.specs.inside.Looks.{Looked}
@@ -114,3 +114,7 @@ returns-clause-broke_off g c = λ is.
     broke_on D.follows D.seen D.may_leave D.later D.left_between D.driven D.faults g.met.D.Disk.driven_on
     c.args.disk.now c.fill.new.disk c.read_frames.new.disk (looked_at g (goal.at.returns-clause-broke_off g c).After-fill)
     (c.read_frames.ensures.broke_off is)
+
+pub read_frames-requires-clause-begun : goal.read_frames-requires-clause-begun
+read_frames-requires-clause-begun g c =
+    c.pass.ensures.place ∙ ap (λ (n : ℕ). n + 16) (at_start g (goal.at.read_frames-requires-clause-begun g c).After-bytes)

@@ -3,10 +3,19 @@ use Rattle.ba_journal.specs.inside.Blocks.{Begins, BeginsFrames}
 use Rattle.ba_journal.specs.inside.Looks.{Looked}
 use Rattle.ba_journal.proofs.BlockReads.{Stands, begins_there, stands_after, stands_on, stands_last, stands_refused}
 use Rattle.ba_journal.proofs.Looking.{looked_on, broke_on}
-use Rattle.ba_journal.proofs.Paid.{paid_at, paid_on}
+use Rattle.ba_journal.proofs.Befores.{before_at, before_none, before_on}
 use Rattle.ba_journal.proofs.readings.read_frames.Goals as goal
 use Rattle.ba_journal.proofs.readings.read_frames.Goals.{After-fill, After-bytes}
 use Rattle.ba_journal.proofs.readings.read_frames.Given.{Over}
+
+pub frames-init : goal.frames-init
+frames-init g c =
+    record {
+      within = search rules;
+      before = before_none c.new-records.result c.args.blocks.place (search rules) (search rules);
+      looked = search rules;
+      stands = search rules;
+    }
 
 -- the disk was looked at since the start
 looked_at : (g : Over) (c : After-fill g)
@@ -82,8 +91,9 @@ frames-preserved g c =
           subst (λ (n : ℕ). 5 + length c.in-Some.shown.now < n) c.left-left.ensures.left c.in-Some.ensures.before_the_end in
           let there : c.pass.new.self.place ≡ c.fill.new.self.place + (5 + length c.in-Some.shown.now) = search rules in
           omega (arith, ends, there, c.left-left.ensures.small);
-      paid = let more = c.in_default-take_shown.ensures.ok in
-          rw more.2 (paid_on c.frames.records c.frames.blocks.place c.pass.new.self.place c.in-Some.shown.now more.0 c.frames.invariant.paid
+      before = let more = c.in_default-take_shown.ensures.ok in
+          rw more.2 (before_on c.frames.records c.frames.blocks.place c.pass.new.self.place c.in-Some.shown.now more.0
+          c.frames.invariant.before
           c.in-Some.ensures.are more.1
           (c.pass.ensures.place ∙ ap (λ (n : ℕ). n + (5 + length c.in-Some.shown.now)) c.fill.ensures.place));
       looked = looked_at g (goal.at.frames-preserved g c).After-fill;
@@ -105,7 +115,7 @@ returns-in_default-clause-broke_off g c = λ is.
     broke_on D.follows D.seen D.may_leave D.later D.left_between D.driven D.faults g.met.D.Disk.driven_on
     c.args.disk.now c.frames.disk c.fill.new.disk c.frames.invariant.looked c.in_default.ensures.broke_off
 
-pub returns-in_default-shown_payload-clause-paid :
-    goal.returns-in_default-shown_payload-clause-paid
-returns-in_default-shown_payload-clause-paid g c =
-    paid_at c.frames.records c.frames.blocks.place c.place.result (c.place.ensures ∙ c.fill.ensures.place) c.frames.invariant.paid
+pub returns-in_default-shown_payload-clause-end :
+    goal.returns-in_default-shown_payload-clause-end
+returns-in_default-shown_payload-clause-end g c =
+    before_at c.frames.records c.frames.blocks.place c.place.result (c.place.ensures ∙ c.fill.ensures.place) c.frames.invariant.before
