@@ -1,0 +1,2 @@
+pub mod TournamentLemmas
+pub mod FirstLemmas

@@ -1,0 +1,132 @@
+//! The part of a plan that one sender serves.
+ghost use Rattle.ba_resend.specs.inside.Tournaments.{IsFirstOf, IsTournament, comes_first, due_in as due_of, entry_at, first_of, half, slot, slots_of};
+ghost use Rattle.std.specs.Prelude.{◌≡◌, ℕ, ◌+◌, ◌*◌, ◌/◌, ◌<◌, ◌≤◌, IfOk, OnErr, OnOk, length, slice_set, []};
+
+use crate::dues::Due;
+use ba_core::Memory;
+use std::alloc::Global;
+use std::marker::Model;
+
+/// What is due at a place of a share.
+#[derive(Clone, Copy)]
+pub(crate) struct Entry {
+    pub place: usize,
+    pub due: Due,
+}
+
+/// The places of a share, with what is due at each, as a tournament that the first of them wins.
+#[derive(Drop)]
+pub(crate) struct Share {
+    tree: Vec<Option<Entry>>,
+}
+
+impl Model for Share {
+    ghost use Rattle.std.specs.Prelude.{List, Option};
+    ghost use Rattle.ba_resend.specs.declared.dues.Due.{Due};
+
+    ghost Value = { List (Option Due) };
+
+    ghost use Rattle.ba_resend.specs.inside.Tournaments.{IsTournament, slots_of};
+
+    ghost view = { λ a. slots_of a.tree.items };
+
+    ghost invariant = { λ a. IsTournament a.tree.items };
+}
+
+impl Share {
+    /// A share without a place.
+    pub(crate) fn new(alloc: Global) -> Share
+        ensures { result ≡ [] }
+    {
+        Share {
+            tree: Vec::new(alloc),
+        }
+    }
+
+    pub(crate) fn len(&self) -> usize
+        ensures { result ≡ length self.now }
+    {
+        self.tree.len() / 2
+    }
+
+    /// What is due at the place, if there is that place.
+    pub(crate) fn at(&self, place: usize) -> Option<Due>
+        ensures { result ≡ slot self.now place }
+    {
+        if place < self.tree.len() / 2 {
+            due_in(self.tree[self.tree.len() / 2 + place])
+        } else {
+            None
+        }
+    }
+
+    /// Sets what is due at the place.
+    pub(crate) fn set(&mut self, place: usize, due: Option<Due>)
+        requires { place < length self.old }
+        ensures { self.new ≡ slice_set self.old place due }
+    {
+        put(&mut self.tree, place, due);
+    }
+
+    /// The first that is due at any time.
+    pub(crate) fn first(&self) -> Option<Entry>
+        ensures { IsFirstOf self.now result }
+    {
+        if self.tree.len() < 2 {
+            None
+        } else {
+            self.tree[1]
+        }
+    }
+}
+
+fn due_in(entry: Option<Entry>) -> Option<Due>
+    ensures { result ≡ due_of entry }
+{
+    match entry {
+        Some(entry) => Some(entry.due),
+        None => None,
+    }
+}
+
+fn placed_entry(place: usize, due: Option<Due>) -> Option<Entry>
+    ensures { result ≡ entry_at place due }
+{
+    match due {
+        Some(due) => Some(Entry { place, due }),
+        None => None,
+    }
+}
+
+/// The one of two that is due first; of two at the same moment the one at the lower place.
+fn earlier(one: Option<Entry>, other: Option<Entry>) -> Option<Entry>
+    ensures { result ≡ first_of one other }
+{
+    match (one, other) {
+        (None, _) => other,
+        (_, None) => one,
+        (Some(a), Some(b)) => { if is_before(&a, &b) { one } else { other } }
+    }
+}
+
+fn is_before(a: &Entry, b: &Entry) -> bool
+    ensures { result ≡ comes_first a.now b.now }
+{
+    a.due.moment < b.due.moment || a.due.moment == b.due.moment && a.place < b.place
+}
+
+/// Puts what is due at a place into a tournament, and settles the nodes above it.
+fn put(tree: &mut [Option<Entry>], place: usize, due: Option<Due>)
+    requires fits { IsTournament tree.old }
+    requires place { place < half tree.old }
+    ensures fits { IsTournament tree.new }
+    ensures slots { slots_of tree.new ≡ slice_set (slots_of tree.old) place due }
+{
+    let leaf = tree.len() / 2 + place;
+    tree[leaf] = placed_entry(place, due);
+    let mut node = leaf / 2;
+    while node > 0 {
+        tree[node] = earlier(tree[2 * node], tree[2 * node + 1]);
+        node /= 2;
+    }
+}
