@@ -1,6 +1,7 @@
--- Letters that are postable can be encoded: for the law on letters.
+-- Letters that are postable can be encoded, also as letters from an endpoint of the node's own: for the laws on letters.
 use Rattle.std.proofs.Common.{◌≡◌, true, [], Some, None, map, length, append-nil, refl}
 use Rattle.std.proofs.Common.{ap, subst, arith}
+use Rattle.ba_core.specs.declared.notices.Notice.{Notice}
 use Rattle.ba_core.specs.declared.protocols.Protocol.{Protocol}
 use Rattle.ba_message.specs.declared.endpoints.Epr.{Epr}
 use Rattle.ba_message.specs.declared.messages.Letter.{Letter}
@@ -15,7 +16,8 @@ use Rattle.ba_soap.specs.Elements.{marked_tree}
 use Rattle.ba_tree.specs.Characters.{has_bare_ends}
 use Rattle.ba_tree.specs.Trees.{firsts}
 use Rattle.ba_wire.specs.Elements.{body_element}
-use Rattle.ba_wire.specs.Envelopes.{CanEncode, EndpointsFit, HasEnvelope, action_for, envelope_of, has_bare_identifiers, is_known}
+use Rattle.ba_wire.specs.Envelopes.{CanEncode, CanEncodeLetter, EndpointsFit, HasEnvelope, action_for, envelope_of, has_bare_identifiers}
+use Rattle.ba_wire.specs.Envelopes.{is_known}
 use Rattle.ba_wire.specs.Routes.{number_urn, route_of}
 use Rattle.ba_wire_limits.proofs.FitParameters.{few_spaces, short_parameters}
 use Rattle.ba_wire_limits.proofs.Known.{brief_action, known_notice}
@@ -25,7 +27,7 @@ use Rattle.ba_message.proofs.OwnEndpoints.{own_endpoint_fits}
 use Rattle.ba_message.proofs.PlainTexts.{and_both, plain_is_bare}
 use Rattle.ba_wire_limits.proofs.BriefTexts.{brief_said, brief_short, plain_is_said}
 use Rattle.ba_wire_limits.proofs.SoundBodies.{sound_notice, sound_register}
-use Rattle.ba_wire_limits.proofs.SoundEnvelopes.{IsShort, IsSmall, envelope_writable}
+use Rattle.ba_wire_limits.proofs.SoundEnvelopes.{IsShort, IsSmall, envelope_writable, notification_writable}
 use Rattle.ba_wire_limits.proofs.SoundTrees.{AllSound, Sound, all_wider, further_named, wider}
 
 pub action_short : (m : Message) → IsShort (action_for m)
@@ -98,5 +100,34 @@ module _ (letter : Letter) (fits : Fits letter.to) (dialable : IsDialable letter
   message_can_be_encoded (message.Registered coordinator) p = absurd p
   message_can_be_encoded (message.Fault code) p = absurd p
 
+  -- ---- from an endpoint of the node's own
+
+  notice_from : (source : Epr) → IsOwnEndpoint source → (n : Notice) → IsPostableMessage (message.Notice n)
+      → CanEncodeLetter source (route_of letter) (message.Notice n)
+  notice_from source own n p =
+      let spaces = few_spaces letter.to fits in
+      let same = ap (λ l. length (firsts l)) (append-nil (further_named letter.to.parameters)) in
+      let body = wider 21 400 (sound_notice n) (omega arith) (omega arith) in
+      record {
+        envelope = has_envelope (message.Notice n) (known_notice n p) tt refl;
+        writable = notification_writable (envelope_of (route_of letter) (message.Notice n)) (small (message.Notice n)) parameters source
+            (own_endpoint_fits source own) own.alone body (omega arith);
+      }
+
+  pub message_can_be_sent : (source : Epr) → IsOwnEndpoint source → (m : Message) → IsPostableMessage m
+      → CanEncodeLetter source (route_of letter) m
+  message_can_be_sent source own (message.Notice n) p = notice_from source own n p
+  message_can_be_sent source own (message.Register protocol participant) p =
+      let can = message_can_be_encoded (message.Register protocol participant) p in
+      record { envelope = can.envelope; writable = can.writable }
+  message_can_be_sent source own (message.Create expires current kind up) p = absurd p
+  message_can_be_sent source own (message.Created context) p = absurd p
+  message_can_be_sent source own (message.Registered coordinator) p = absurd p
+  message_can_be_sent source own (message.Fault code) p = absurd p
+
 pub letter_can_be_encoded : (letter : Letter) → IsPostable letter → CanEncode (route_of letter) letter.message
 letter_can_be_encoded letter is = message_can_be_encoded letter is.fits is.dialable letter.message is.message
+
+pub letter_can_be_sent : (source : Epr) (letter : Letter) → IsOwnEndpoint source → IsPostable letter
+    → CanEncodeLetter source (route_of letter) letter.message
+letter_can_be_sent source letter own is = message_can_be_sent letter is.fits is.dialable source own letter.message is.message

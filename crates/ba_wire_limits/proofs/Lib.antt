@@ -11,6 +11,7 @@ pub mod LegalTrims
 pub mod MarkedAttributes
 pub mod MarkedParameters
 pub mod NumberUrns
+pub mod PostedLetters
 pub mod ReadBodies
 pub mod ReadHeaders
 pub mod ReadMessages

@@ -4,15 +4,21 @@ use Rattle.std.proofs.Common.{codes, append-nil, refl, sym, ap, ◌∙◌, subst
 use Rattle.ba_soap.specs.declared.headers.Envelope.{Envelope}
 use Rattle.ba_soap.specs.declared.headers.Header.{Header}
 use Rattle.ba_soap.specs.declared.headers.Header.TheVariants as header
-use Rattle.ba_soap.specs.Elements.{envelope_element, header_blocks, marked_tree, optional_block, text_block}
+use Rattle.ba_message.specs.declared.endpoints.Epr.{Epr}
+use Rattle.ba_message.specs.Endpoints.{Fits}
+use Rattle.ba_soap.specs.Elements.{endpoint_block, envelope_element, envelope_with, header_blocks, marked_tree, none_endpoint}
+use Rattle.ba_soap.specs.Elements.{notification_blocks, notification_element, optional_block, source_blocks, text_block}
 use Rattle.ba_soap.specs.Envelopes.{header_name, soap11}
 use Rattle.ba_tree.specs.declared.trees.Tree.{Tree}
 use Rattle.ba_tree.specs.Names.{is_plain_name}
 use Rattle.ba_tree.specs.Trees.{firsts}
 use Rattle.ba_tree.proofs.SpaceLaws.{append_assoc}
 use Rattle.ba_xml_writer.specs.Writable.{IsWritable}
+use Rattle.ba_wire_limits.proofs.BriefTexts.{brief_said}
+use Rattle.ba_wire_limits.proofs.SoundEndpoints.{sound_endpoint}
 use Rattle.ba_wire_limits.proofs.SoundNames.{soap_is, wsa_is}
-use Rattle.ba_wire_limits.proofs.SoundTrees.{AllSound, IsSaid, Sound, all_wider, more_sound, none_sound, sound_element, sound_text, wider}
+use Rattle.ba_wire_limits.proofs.SoundTrees.{AllSound, IsSaid, Sound, all_wider, further_named, more_sound, none_sound, sound_element}
+use Rattle.ba_wire_limits.proofs.SoundTrees.{sound_text, wider}
 use Rattle.ba_wire_limits.proofs.WritableTrees.{writable_by}
 
 -- ---- header blocks
@@ -48,14 +54,41 @@ sound_block h text is =
 
 -- a block and what stands after it
 sound_before : (h : Header) (text : List ℕ) → IsShort text → {ts : List Tree} {size : ℕ} {xs : List (List ℕ)}
-    → AllSound ts 16 size xs → AllSound (text_block h text ∷ ts) 16 (1101 + size) xs
+    → AllSound ts 18 size xs → AllSound (text_block h text ∷ ts) 18 (1101 + size) xs
 sound_before h text is {ts} {size} all =
-    all_wider 16 (1101 + size) (more_sound (sound_block h text is) all) (omega arith) (omega arith)
+    all_wider 18 (1101 + size) (more_sound (sound_block h text is) all) (omega arith) (omega arith)
 
 sound_option : (h : Header) (o : Option (List ℕ)) → IfSome o IsShort → {ts : List Tree} {size : ℕ} {xs : List (List ℕ)}
-    → AllSound ts 16 size xs → AllSound (optional_block h o ++ ts) 16 (1101 + size) xs
-sound_option h None is {ts} {size} all = all_wider 16 (1101 + size) all (omega arith) (omega arith)
+    → AllSound ts 18 size xs → AllSound (optional_block h o ++ ts) 18 (1101 + size) xs
+sound_option h None is {ts} {size} all = all_wider 18 (1101 + size) all (omega arith) (omega arith)
 sound_option h (Some text) is all = sound_before h text is all
+
+-- the endpoint of a source, which has no parameters
+sound_source : (source : Epr) → Fits source → source.parameters ≡ [] → Sound (endpoint_block header.From source) 18 4400 []
+sound_source source fits alone =
+    let s = wider 18 4400 (sound_endpoint (wsa_is (header_name header.From) refl) source fits) (omega arith) (omega arith) in
+    subst (λ ps. Sound (endpoint_block header.From source) 18 4400 (further_named ps)) alone s
+
+sound_none : Sound (endpoint_block header.ReplyTo none_endpoint) 2 400 []
+sound_none =
+    let address = sound_text (wsa_is (codes "Address") refl) (brief_said none_endpoint.address refl) in
+    wider 2 400 (sound_element (wsa_is (header_name header.ReplyTo) refl) (more_sound address none_sound)) (omega arith) (omega arith)
+
+-- ---- the envelope of blocks and a body that are small together
+
+writable_with :
+    {blocks : List Tree} {body : Tree} {size more : ℕ} {marked named : List (List ℕ)} → AllSound blocks 18 size marked
+    → Sound body 21 more named → size + more ≤ 19000 → length (firsts (marked ++ named)) ≤ 28
+    → IsWritable (envelope_with soap11 blocks body)
+writable_with {blocks} {body} {size} {more} {marked} {named} above inside small few =
+    let first = sound_element (soap_is (codes "Header") refl) above in
+    let second = sound_element (soap_is (codes "Body") refl) (more_sound inside none_sound) in
+    let both = more_sound first (more_sound second none_sound) in
+    let whole : Sound (envelope_with soap11 blocks body) 23 (size + more + 700) (marked ++ ((named ++ []) ++ [])) =
+    wider 23 (size + more + 700) (sound_element (soap_is (codes "Envelope") refl) both) (omega arith) (omega arith) in
+    let same : length (firsts (marked ++ ((named ++ []) ++ []))) ≡ length (firsts (marked ++ named)) =
+    ap (λ l. length (firsts (marked ++ l))) (append-nil (named ++ []) ∙ append-nil named) in
+    writable_by whole (omega arith) (omega arith) (omega arith) refl
 
 -- what an envelope says, and that each of its texts is short
 pub record IsSmall (e : Envelope) : Type 0 where
@@ -79,25 +112,46 @@ module _ (e : Envelope) (small : IsSmall e) {marked : List (List ℕ)}
       let last = map marked_tree e.parameters in
       append_assoc to (action ∷ (id ++ relates)) last ∙ ap (λ l. to ++ (action ∷ l)) (append_assoc id relates last)
 
-  sound_blocks : AllSound (header_blocks e) 16 9500 marked
+  after_texts : AllSound (optional_block header.RelatesTo e.relates_to ++ map marked_tree e.parameters) 18 6101 marked
+  after_texts =
+      let deep = all_wider 18 5000 parameters (omega arith) (omega arith) in
+      sound_option header.RelatesTo e.relates_to small.relates_to deep
+
+  sound_blocks : AllSound (header_blocks e) 18 9500 marked
   sound_blocks =
-      let related = sound_option header.RelatesTo e.relates_to small.relates_to parameters in
-      let numbered = sound_option header.MessageID e.message_id small.message_id related in
+      let numbered = sound_option header.MessageID e.message_id small.message_id after_texts in
       let acted = sound_before header.Action e.action small.action numbered in
-      let all = all_wider 16 9500 (sound_option header.To e.to small.to acted) (omega arith) (omega arith) in
-      subst (λ ts. AllSound ts 16 9500 marked) (sym blocks_are) all
+      let all = all_wider 18 9500 (sound_option header.To e.to small.to acted) (omega arith) (omega arith) in
+      subst (λ ts. AllSound ts 18 9500 marked) (sym blocks_are) all
 
-  -- with a body in an envelope
-  module _ {named : List (List ℕ)} (body : Sound e.body 21 6800 named) where
-    sound_envelope : Sound (envelope_element soap11 e) 23 17000 (marked ++ ((named ++ []) ++ []))
-    sound_envelope =
-        let first = sound_element (soap_is (codes "Header") refl) sound_blocks in
-        let second = sound_element (soap_is (codes "Body") refl) (more_sound body none_sound) in
-        let both = more_sound first (more_sound second none_sound) in
-        wider 23 17000 (sound_element (soap_is (codes "Envelope") refl) both) (omega arith) (omega arith)
+  pub envelope_writable : {named : List (List ℕ)} → Sound e.body 21 6800 named → length (firsts (marked ++ named)) ≤ 28
+      → IsWritable (envelope_element soap11 e)
+  envelope_writable body few = writable_with sound_blocks body (omega arith) few
 
-    pub envelope_writable : length (firsts (marked ++ named)) ≤ 28 → IsWritable (envelope_element soap11 e)
-    envelope_writable few =
-        let same : length (firsts (marked ++ ((named ++ []) ++ []))) ≡ length (firsts (marked ++ named)) =
-        ap (λ l. length (firsts (marked ++ l))) (append-nil (named ++ []) ∙ append-nil named) in
-        writable_by sound_envelope (omega arith) (omega arith) (omega arith) refl
+  -- a notification, whose source has no parameters and whose body is small
+  module _ (source : Epr) (fits : Fits source) (alone : source.parameters ≡ []) where
+    notification_is : notification_blocks source e
+        ≡ optional_block header.To e.to
+        ++ (text_block header.Action e.action
+        ∷ (optional_block header.MessageID e.message_id
+        ++ (source_blocks source ++ (optional_block header.RelatesTo e.relates_to ++ map marked_tree e.parameters))))
+    notification_is =
+        let to = optional_block header.To e.to in
+        let action = text_block header.Action e.action in
+        let id = optional_block header.MessageID e.message_id in
+        let rest = source_blocks source ++ optional_block header.RelatesTo e.relates_to in
+        let last = map marked_tree e.parameters in
+        append_assoc to (action ∷ (id ++ rest)) last ∙ ap (λ l. to ++ (action ∷ l)) (append_assoc id rest last)
+
+    sound_notification : AllSound (notification_blocks source e) 18 15000 marked
+    sound_notification =
+        let replied = all_wider 18 6600 (more_sound sound_none after_texts) (omega arith) (omega arith) in
+        let sourced = all_wider 18 11100 (more_sound (sound_source source fits alone) replied) (omega arith) (omega arith) in
+        let numbered = sound_option header.MessageID e.message_id small.message_id sourced in
+        let acted = sound_before header.Action e.action small.action numbered in
+        let all = all_wider 18 15000 (sound_option header.To e.to small.to acted) (omega arith) (omega arith) in
+        subst (λ ts. AllSound ts 18 15000 marked) (sym notification_is) all
+
+    pub notification_writable : {named : List (List ℕ)} → Sound e.body 21 400 named → length (firsts (marked ++ named)) ≤ 28
+        → IsWritable (notification_element soap11 source e)
+    notification_writable body few = writable_with sound_notification body (omega arith) few
