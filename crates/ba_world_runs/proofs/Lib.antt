@@ -4,6 +4,7 @@ pub mod Completed
 pub mod EndLemmas
 pub mod Generations
 pub mod Goes
+pub mod HeadlineLemmas
 pub mod Heard
 pub mod InPlace
 pub mod Letters

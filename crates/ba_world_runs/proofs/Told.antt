@@ -26,7 +26,8 @@ use Rattle.ba_node_steps.specs.Node.{Among}
 use Rattle.ba_node_steps.proofs.Places.{first_is}
 use Rattle.ba_world_runs.specs.Links.{HasEnd, IsLink, link_in, side_of}
 use Rattle.ba_world_runs.specs.Safety.{IsSound, MailFits, TellsTheWord, of_end, of_part, of_register}
-use Rattle.ba_world_runs.specs.Words.{HasWord, IsTheWord, word_told}
+use Rattle.ba_world_runs.specs.Words.{HasWord, IsTheWord}
+use Rattle.ba_node_steps.specs.WordsTold.{word_told}
 use Rattle.ba_world_runs.specs.World.{Net, letter, participant_at}
 use Rattle.ba_world_runs.proofs.Letters.{heard_above, heard_below}
 use Rattle.ba_world_runs.proofs.Owners.{end_id, one_endpoint, one_participant, one_registration, part_id, scope_fits_here, sender_is}

@@ -18,7 +18,7 @@ use Rattle.ba_node_steps.specs.Node.{Among, NodeState}
 use Rattle.ba_world_runs.specs.Links.{IsLink, link_in}
 use Rattle.ba_world_runs.specs.Safety.{IsSound}
 use Rattle.ba_world_runs.specs.Trees.{HasVerdictAbove, IsChild, TreesFit}
-use Rattle.ba_world_runs.specs.Words.{word_told}
+use Rattle.ba_node_steps.specs.WordsTold.{word_told}
 use Rattle.ba_world_runs.specs.World.{Net, Occasion, PartAt, ScopeAt, answer, delivers, letter, node_at, own, participant_at, registration_at}
 use Rattle.ba_world_runs.specs.World.{ticks}
 use Rattle.ba_world_runs.specs.WorldSteps.{IsPossible, BringsInput, Moves, effect}

@@ -54,7 +54,7 @@ use Rattle.ba_node_steps.proofs.Members.{all_among, among_left, among_map, same_
 use Rattle.ba_node_steps.proofs.Objects.{one_end, one_scope, scope_fits}
 use Rattle.ba_node_steps.proofs.Places.{EndStands, Stands, first_is, scope_found}
 use Rattle.ba_scope.proofs.ScopeCases.{choose_cases, complete_cases, decide_cases, finish_cases, leave_cases}
-use Rattle.ba_world_runs.specs.Words.{word_told}
+use Rattle.ba_node_steps.specs.WordsTold.{word_told}
 use Rattle.ba_world_runs.proofs.EndLemmas.{atomic_verdict}
 use Rattle.ba_world_runs.proofs.Goes.{from_append, from_map, some_same}
 use Rattle.ba_world_runs.proofs.StepsGo.{tick_up_same}

@@ -1,3 +1,4 @@
+pub mod Headline
 pub mod Links
 pub mod Records
 pub mod Runs

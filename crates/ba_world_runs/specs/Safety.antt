@@ -21,7 +21,8 @@ use Rattle.ba_node_steps.specs.Lawful.{Replays}
 use Rattle.ba_node_steps.specs.Node.{Among}
 use Rattle.ba_world_runs.specs.Links.{HasEnd, HasOneLink, IsLink, link_in}
 use Rattle.ba_world_runs.specs.Trees.{TreesFit}
-use Rattle.ba_world_runs.specs.Words.{IsTheWord, word_told}
+use Rattle.ba_world_runs.specs.Words.{IsTheWord}
+use Rattle.ba_node_steps.specs.WordsTold.{word_told}
 use Rattle.ba_world_runs.specs.World.{Mail, Net, PartAt, ScopeAt, World, answer, coordinator_at, letter, net_of, participant_at, node_at}
 use Rattle.ba_world_runs.specs.WorldSteps.{MayStillBeTaken}
 

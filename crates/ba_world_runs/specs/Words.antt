@@ -1,10 +1,7 @@
 -- Believe: the word that is recorded for an end: in a root its verdict, and in a child the word of the end that enrolled the
--- child's upward part; and which word a notice tells.
+-- child's upward part.
 use Rattle.std.specs.Prelude.{◌≡◌, ℕ, Option, None, Some}
-use Rattle.ba_core.specs.declared.notices.Notice.{Notice}
-use Rattle.ba_core.specs.declared.notices.Notice.TheVariants as notice
 use Rattle.ba_core.specs.declared.protocols.Verdict.{Verdict}
-use Rattle.ba_core.specs.declared.protocols.Verdict.TheVariants.{Close, Undo}
 use Rattle.ba_scope.specs.Scope.{ScopeState}
 use Rattle.ba_scope_ends.specs.declared.ends.End.{End}
 use Rattle.ba_scope_ends.specs.declared.parts.Part.{Part}
@@ -25,10 +22,3 @@ pub data HasWord (w : Net) : ℕ → Verdict → Type 0 where
 pub record IsTheWord (w : Net) (id : ℕ) (v : Verdict) : Type 0 where
   pub has : HasWord w id v
   pub no_other : (u : Verdict) → HasWord w id u → u ≡ v
-
--- the word that a notice tells
-abbrev pub word_told : Notice → Option Verdict
-word_told notice.Close = Some Close
-word_told notice.Cancel = Some Undo
-word_told notice.Compensate = Some Undo
-word_told n = None

@@ -9,6 +9,7 @@ ghost use Rattle.ba_core.specs.declared.protocols.Kind.{Kind};
 ghost use Rattle.ba_core.specs.declared.protocols.Side.{Side};
 ghost use Rattle.ba_core.specs.declared.protocols.Verdict.{Verdict};
 ghost use Rattle.ba_link.specs.Outcomes.{is_outcome, outcome_kept};
+ghost use Rattle.ba_message.specs.declared.endpoints.Epr.{Epr};
 ghost use Rattle.ba_message.specs.declared.messages.Letter.{Letter};
 ghost use Rattle.ba_message.specs.declared.messages.Message.TheVariants as message;
 ghost use Rattle.ba_record.specs.Coding.{InRange};
@@ -26,12 +27,14 @@ ghost use Rattle.ba_node_steps.specs.Node.{Among, NodeState, counter};
 ghost use Rattle.ba_node_steps.specs.Steps.{node_step};
 ghost use Rattle.ba_node_steps.specs.declared.answers.Reply.TheVariants as reply;
 ghost use Rattle.ba_node_steps.specs.declared.inputs.Input.TheVariants as input;
+ghost use Rattle.ba_world_runs.specs.Headline.{IsEndFor, RecordsSay, WasTold};
 ghost use Rattle.ba_world_runs.specs.Links.{HasEnd, HasOneLink, IsLink, LinksStay, LinksStep};
 ghost use Rattle.ba_world_runs.specs.Records.{HasActed, RecordsOutcome, WasRecorded};
 ghost use Rattle.ba_world_runs.specs.Runs.{IsRun, IsFirstWorld, WasCompleted, is_closing_state};
 ghost use Rattle.ba_world_runs.specs.Safety.{IsAddressed, IsItsRecords, IsSafe, IsSound, IsSoundWorld, KeepsItsEnd};
 ghost use Rattle.ba_world_runs.specs.Trees.{GenerationsFit, IsChild, IsKeptUnder, IsUnder, TreesFit};
-ghost use Rattle.ba_world_runs.specs.Words.{HasWord, IsTheWord, word_told};
+ghost use Rattle.ba_world_runs.specs.Words.{HasWord, IsTheWord};
+ghost use Rattle.ba_node_steps.specs.WordsTold.{word_told};
 ghost use Rattle.ba_world_runs.specs.World.{Mail, Mode, Net, Occasion, PartAt, ScopeAt, World, is_closed, is_down, is_up, letter, net_of, node_at, participant_at};
 ghost use Rattle.ba_world_runs.specs.WorldSteps.{BringsInput, IsPossible, MayStillBeTaken, Moves, Stays, Takes, WorldStep};
 
@@ -213,4 +216,19 @@ pub fn every_run_is_safe()
         (n : Notice) (v : Verdict) → IsLink (net_of w) j p k s → HasEnd (net_of w) j p s e → Among w.bag (letter l)
         → l.to ≡ participant_at (net_of w) j p.id → l.message ≡ message.Notice n → word_told n ≡ Some v
         → IsTheWord (net_of w) e.id.0 v }
+{}
+
+/// The headline. In each run no two letters that ever went to one endpoint tell two outcomes. What was told there is the verdict that
+/// a node's records keep for the end of that participant; Close was told only after that end was Completed; and in a tree of type
+/// AtomicOutcome each participant was told the verdict of the root, so all were told one.
+pub fn no_participant_learns_two_outcomes()
+    ensures one { (w : World) (before : List World) → IsRun (w ∷ before) → (to : Epr) (v u : Verdict) → WasTold w to v → WasTold w to u
+        → v ≡ u }
+    ensures recorded { (w : World) (before : List World) → IsRun (w ∷ before) → (to : Epr) (v : Verdict) → WasTold w to v
+        → (k : ℕ) × RecordsSay (w.nodes k).records to v }
+    ensures completed { (w : World) (before : List World) → IsRun (w ∷ before) → (to : Epr) → WasTold w to Verdict.Close
+        → (k : ℕ) × (s : ScopeState) × (e : End) × IsEndFor (w.nodes k).state s e to × WasCompleted before e.id }
+    ensures tree { (w : World) (before : List World) → IsRun (w ∷ before) → (l k : ℕ) (root s : ScopeState) (e : End) (to : Epr)
+        (v : Verdict) → root.up ≡ None → root.kind ≡ Kind.Atomic → IsUnder (net_of w) l root k s → IsEndFor (w.nodes k).state s e to
+        → WasTold w to v → root.verdict ≡ Some v }
 {}
