@@ -8,6 +8,7 @@ use Rattle.ba_core.specs.EndRows.{end_tick}
 use Rattle.ba_core.specs.Messages.{end_name, notice_code, part_name}
 use Rattle.ba_core.specs.PartRows.{part_says}
 use Rattle.ba_core.specs.declared.identifiers.Id.{Id}
+use Rattle.ba_core.specs.declared.notices.Act.TheVariants as act
 use Rattle.ba_core.specs.declared.notices.Notice.{Notice}
 use Rattle.ba_core.specs.declared.notices.Notice.TheVariants as notice
 use Rattle.ba_core.specs.declared.protocols.Verdict.{Verdict}
@@ -15,12 +16,16 @@ use Rattle.ba_core.specs.declared.protocols.Verdict.TheVariants.{Close, Undo}
 use Rattle.ba_core.specs.declared.states.How.TheVariants.{Closed}
 use Rattle.ba_core.specs.declared.states.CState.{CState}
 use Rattle.ba_core.specs.declared.states.CState.TheVariants as end
+use Rattle.ba_core.specs.declared.states.How.{How}
 use Rattle.ba_core.specs.declared.states.PState.{PState}
+use Rattle.ba_core.specs.declared.states.PState.TheVariants as part
 use Rattle.ba_link.proofs.Everywhere.{ends, only_if, part_passes, parts, state_passes, verdict_passes, verdicts, where_asked}
 use Rattle.ba_link.specs.Pairs.{is_close, is_open, is_undo, verdict_fits_state}
 use Rattle.ba_message.specs.declared.endpoints.Epr.{Epr}
 use Rattle.ba_message.specs.declared.messages.Letter.{Letter}
 use Rattle.ba_message.specs.declared.messages.Message.TheVariants as message
+use Rattle.ba_record.specs.declared.records.Record.{Record}
+use Rattle.ba_record.specs.declared.records.Record.TheVariants as journal
 use Rattle.ba_scope.proofs.Calls.{by_option}
 use Rattle.ba_scope.proofs.Lists.{by_test}
 use Rattle.ba_scope.specs.Fits.{same_verdict, up_state, verdict_fits_scope}
@@ -34,15 +39,17 @@ use Rattle.ba_node_steps.specs.declared.inputs.Input.{Input}
 use Rattle.ba_node_steps.specs.Addresses.{message_number, sender_of}
 use Rattle.ba_node_steps.specs.Fits.{HasSpareCounters, IsIdAt, NodeFits}
 use Rattle.ba_node_steps.specs.Histories.{HadCompleted, Happening, HasCounters, HasEndAt, HasEndVerdict, HasOneWord, HasScopeVerdict, IsTold}
+use Rattle.ba_node_steps.specs.Histories.{HasPartIn, has_completed, written_by}
 use Rattle.ba_node_steps.specs.Histories.{TellsItsVerdict, atomic_has_one, child_has_one, consequence, input_at, letters_of, node_then}
 use Rattle.ba_node_steps.specs.Histories.{states_of, stops_with, stops_without, tick_at}
 use Rattle.ba_node_steps.specs.WordsTold.{word_in, word_told}
 use Rattle.ba_node_steps.specs.Lawful.{given, ticked}
-use Rattle.ba_node_steps.specs.Node.{Among, NodeState, last, new_node}
+use Rattle.ba_node_steps.specs.Node.{Among, HasPart, NodeState, counter, last, new_node}
 use Rattle.ba_node_steps.specs.Ticks.{TickStep, end_letter, notice_letter, part_letter, register_letter, tick_step}
 use Rattle.ba_node_steps.proofs.Cases.{SentOnly, nothing, of_end, of_lone, of_registering, of_up, tick_letters}
-use Rattle.ba_node_steps.proofs.Members.{id_by_number}
-use Rattle.ba_node_steps.proofs.Objects.{end_here, one_end, one_scope, scope_fits}
+use Rattle.ba_node_steps.proofs.Members.{among_right, id_by_number}
+use Rattle.ba_node_steps.proofs.Objects.{end_here, one_end, one_part, one_scope, scope_fits}
+use Rattle.ba_node_steps.proofs.PartsGo.{PartsGo, input_parts, part_back, part_on, parts_stay, tick_parts}
 use Rattle.ba_node_steps.proofs.Places.{EndStands}
 use Rattle.ba_node_steps.proofs.SameNode.{step_keeps}
 use Rattle.ba_node_steps.proofs.ScopesGo.{EndParts, atomic_verdict, closes_now, end_parts, input_goes, ScopesGo, scopes_stay, tick_moves}
@@ -558,3 +565,68 @@ module _ (number : ℕ) (base : List ℕ) where
     where
       notice_is : (m : Notice) → message.Notice m ≡ message.Notice notice.Close → m ≡ notice.Close
       notice_is m h = cc
+
+-- ---- participants
+
+happening_parts : (n : NodeState) (h : Happening) → NodeFits n → PartsGo (consequence n h).written n (consequence n h).after
+happening_parts n (input_at now i) fits = input_parts n now i fits
+happening_parts n (tick_at now id) fits = tick_parts n now id fits
+happening_parts n (stops_with h) fits = happening_parts n h fits
+happening_parts n (stops_without h) fits = parts_stay None n
+
+module _ (number : ℕ) (base : List ℕ) where
+  step_parts : (h : Happening) (past : List Happening) → HasCounters number (h ∷ past)
+      → PartsGo (consequence (node_then number base past) h).written (node_then number base past) (node_then number base (h ∷ past))
+  step_parts h past room =
+      happening_parts (node_then number base past) h (then_fits number base past (earlier_has number h past room))
+
+  still_ended : (more past : List Happening) (p : Part) (how : How) → HasCounters number (more ++ past)
+      → HasPart (node_then number base past) p → p.state ≡ part.Ended how
+      → (q : Part) × HasPart (node_then number base (more ++ past)) q × (q.id ≡ p.id) × (q.state ≡ part.Ended how)
+  still_ended [] past p how room has ended = (p, has, refl, ended)
+  still_ended (h ∷ more) past p how room has ended =
+      let q = still_ended more past p how (earlier_has number h (more ++ past) room) has ended in
+      let x = part_on (consequence (node_then number base (more ++ past)) h).written (node_then number base (more ++ past))
+      (node_then number base (h ∷ (more ++ past))) q.0 (step_parts h (more ++ past) room) q.1 in
+      (x.0, x.1, x.2.id ∙ q.2, x.2.ended how q.3)
+
+  pub outcome_stays : (more past : List Happening) (p : Part) (how : How) → HasCounters number (more ++ past)
+      → HasPart (node_then number base past) p → p.state ≡ part.Ended how
+      → HasPartIn (node_then number base (more ++ past)) p.id (part.Ended how)
+  outcome_stays more past p how room has ended =
+      let q = still_ended more past p how room has ended in record {
+        participant = q.0;
+        here = q.1;
+        is = q.2;
+        is_in = q.3;
+        alone = λ x x_has x_is. one_part (node_then number base (more ++ past)) x q.0 (then_fits number base (more ++ past) room) x_has q.1
+            (ap (λ (i : Id). i.0) (x_is ∙ sym q.2));
+      }
+
+  head_record : (o : Option Record) (rest : List Record) (k : Record) → o ≡ Some k → Among (option_to_list o ++ rest) k
+  head_record None rest k is = absurd cc
+  head_record (Some x) rest k is = inl (record_one x k is)
+    where
+      record_one : (a b : Record) → ◌≡◌ {A = Option Record} (Some a) (Some b) → a ≡ b
+      record_one a b h = cc
+
+  pub completed_by_act : (past : List Happening) (p : Part) → HasCounters number past → HasPart (node_then number base past) p
+      → has_completed p.state ≡ true → Among (written_by number base past) (journal.Acted (counter p.id) act.Completed)
+  completed_by_act [] p room (inl alone) completed = absurd alone
+  completed_by_act [] p room (inr above) completed = absurd above.1
+  completed_by_act (h ∷ past) p room has completed =
+      elim (part_back written n (node_then number base (h ∷ past)) p (step_parts h past room) has) [
+        | inl from ↦ subst (λ (i : Id). Among (written_by number base (h ∷ past)) (journal.Acted (counter i) act.Completed))
+            (sym from.2.id) (elim (from.2.completed completed) [
+              | inl before ↦ among_right (option_to_list written) (written_by number base past) _
+                  (completed_by_act past from.0 (earlier_has number h past room) from.1 before)
+              | inr now ↦ head_record written (written_by number base past) _ now
+            ])
+        | inr new ↦ absurd (true≢false (sym completed ∙ ap has_completed new))
+      ]
+    where
+      n : NodeState
+      n = node_then number base past
+
+      written : Option Record
+      written = (consequence n h).written

@@ -12,6 +12,7 @@ pub mod NodeKept
 pub mod Objects
 pub mod Own
 pub mod OwnAddresses
+pub mod PartsGo
 pub mod PathBytes
 pub mod Places
 pub mod RecordsGive

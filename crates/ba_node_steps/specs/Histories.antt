@@ -1,10 +1,14 @@
 -- Believe: the history of one node: what happens to it, whatever arrives there, and which letters go out meanwhile.
-use Rattle.std.specs.Prelude.{◌≡◌, ℕ, ◌*◌, ◌<◌, ◌^◌, List, [], ◌∷◌, ◌++◌, length, Option, None, Some}
+use Rattle.std.specs.Prelude.{◌≡◌, ℕ, ◌*◌, ◌<◌, ◌^◌, Bool, List, [], ◌∷◌, ◌++◌, length, Option, None, Some}
 use Rattle.std.specs.Option.{option_to_list}
 use Rattle.ba_core.specs.declared.identifiers.Id.{Id}
 use Rattle.ba_core.specs.declared.protocols.Kind.TheVariants.{Atomic}
 use Rattle.ba_core.specs.declared.protocols.Verdict.{Verdict}
 use Rattle.ba_core.specs.declared.states.CState.TheVariants.{Completed}
+use Rattle.ba_core.specs.declared.states.How.TheVariants.{Closed, Compensated}
+use Rattle.ba_core.specs.declared.states.PState.{PState}
+use Rattle.ba_core.specs.declared.states.PState.TheVariants as part
+use Rattle.ba_link.specs.States.{part_among}
 use Rattle.ba_message.specs.declared.messages.Letter.{Letter}
 use Rattle.ba_record.specs.declared.records.Record.{Record}
 use Rattle.ba_scope.specs.Scope.{ScopeState}
@@ -12,7 +16,7 @@ use Rattle.ba_scope_ends.specs.declared.ends.End.{End}
 use Rattle.ba_scope_ends.specs.declared.parts.Part.{Part}
 use Rattle.ba_node_steps.specs.declared.inputs.Input.{Input}
 use Rattle.ba_node_steps.specs.Addresses.{sender_of}
-use Rattle.ba_node_steps.specs.Node.{Among, NodeState, new_node}
+use Rattle.ba_node_steps.specs.Node.{Among, HasPart, NodeState, new_node}
 use Rattle.ba_node_steps.specs.Steps.{node_step}
 use Rattle.ba_node_steps.specs.Ticks.{tick_step}
 use Rattle.ba_node_steps.specs.WordsTold.{word_in}
@@ -122,3 +126,18 @@ pub record HadCompleted (states : List NodeState) (id : ℕ) : Type 0 where
   pub here : HasEndAt node end.id scope end
   pub is : end.id.0 ≡ id
   pub completed : end.state ≡ Completed
+
+-- ---- a participant's own side
+
+-- it completed, or came from there
+abbrev pub has_completed : PState → Bool
+has_completed =
+    part_among (part.Completed ∷ part.Closing ∷ part.Compensating ∷ part.FailingCompensating ∷ part.Ended Closed ∷ part.Ended Compensated ∷ [])
+
+-- there is a participant with this identifier, no other one has it, and it is in this state
+pub record HasPartIn (n : NodeState) (id : Id) (state : PState) : Type 0 where
+  pub participant : Part
+  pub here : HasPart n participant
+  pub is : participant.id ≡ id
+  pub is_in : participant.state ≡ state
+  pub alone : (p : Part) → HasPart n p → p.id ≡ id → p ≡ participant

@@ -4,11 +4,13 @@ ghost use Rattle.std.specs.List.{AllByRecursion};
 ghost use Rattle.std.specs.Option.{option_map, option_to_list};
 ghost use Rattle.ba_core.specs.declared.codes.Code.TheVariants as code;
 ghost use Rattle.ba_core.specs.declared.identifiers.Id.{Id};
+ghost use Rattle.ba_core.specs.declared.notices.Act.TheVariants as act;
 ghost use Rattle.ba_core.specs.declared.notices.Notice.TheVariants as notice;
 ghost use Rattle.ba_core.specs.declared.protocols.Kind.TheVariants.{Atomic, Mixed};
 ghost use Rattle.ba_core.specs.declared.protocols.Verdict.{Verdict};
 ghost use Rattle.ba_core.specs.declared.protocols.Verdict.TheVariants.{Close, Undo};
 ghost use Rattle.ba_core.specs.declared.states.CState.TheVariants as end;
+ghost use Rattle.ba_core.specs.declared.states.How.{How};
 ghost use Rattle.ba_core.specs.declared.states.How.TheVariants.{Failed};
 ghost use Rattle.ba_core.specs.declared.states.PState.TheVariants as part;
 ghost use Rattle.ba_message.specs.Letters.{IsPostable};
@@ -18,17 +20,19 @@ ghost use Rattle.ba_message.specs.declared.messages.Message.TheVariants as messa
 ghost use Rattle.ba_record.specs.Coding.{InRange};
 ghost use Rattle.ba_record.specs.Endpoints.{IsBase};
 ghost use Rattle.ba_record.specs.declared.records.Record.{Record};
+ghost use Rattle.ba_record.specs.declared.records.Record.TheVariants as journal;
 ghost use Rattle.ba_scope.specs.Scope.{ScopeState};
 ghost use Rattle.ba_scope_ends.specs.declared.ends.End.{End};
+ghost use Rattle.ba_scope_ends.specs.declared.parts.Part.{Part};
 ghost use Rattle.ba_core.specs.declared.refusals.TheConstants.{ALREADY_DECIDED, NOT_READY};
 ghost use Rattle.ba_node_steps.specs.Addresses.{HasText, coordinator_of, hyphenated, participant_of, registration_of, sender_of};
 ghost use Rattle.ba_node_steps.specs.Endpoints.{AllReachable, GivesFit};
 ghost use Rattle.ba_node_steps.specs.Examples.{node_after, after_records, all_written, child_is_made, fails_below, first_base, first_completes, first_node, object, own_choices, register_below, register_of, reply_to, second_exits, second_node, shown_ends, shown_scopes};
 ghost use Rattle.ba_node_steps.specs.Fits.{HasSpareCounters, NodeFits};
-ghost use Rattle.ba_node_steps.specs.Histories.{HadCompleted, Happening, HasCounters, HasEndAt, HasEndVerdict, HasOneWord, HasScopeVerdict, IsTold, TellsItsVerdict, consequence, letters_of, node_then, states_of};
+ghost use Rattle.ba_node_steps.specs.Histories.{HadCompleted, Happening, HasCounters, HasEndAt, HasEndVerdict, HasOneWord, HasPartIn, HasScopeVerdict, IsTold, TellsItsVerdict, consequence, has_completed, letters_of, node_then, states_of, written_by};
 ghost use Rattle.ba_node_steps.specs.Lawful.{AreFew, AreLawful, Event, IsStepOf, Replays, after_record, change, event_of};
 ghost use Rattle.ba_node_steps.specs.Letters.{IsLetterOf};
-ghost use Rattle.ba_node_steps.specs.Node.{Among, NodeState, SameNode, last, new_node};
+ghost use Rattle.ba_node_steps.specs.Node.{Among, HasPart, NodeState, SameNode, counter, last, new_node};
 ghost use Rattle.ba_node_steps.specs.Tellings.{two_closes, two_undone};
 ghost use Rattle.ba_node_steps.specs.Routing.{identifier_in, identifier_of_text};
 ghost use Rattle.ba_node_steps.specs.Replies.{HasFitTime, IsAnswerable};
@@ -211,4 +215,15 @@ pub fn bases_are_short()
 pub fn what_a_node_says_can_be_written()
     ensures letters { (n : NodeState) (id : Id) (l : Letter) → IsBase n.base → IsLetterOf n id l → IsPostable l }
     ensures replies { (n : NodeState) (now : ℕ) (i : Input) → IsBase n.base → HasFitTime i → IsAnswerable (node_step n now i).reply }
+{}
+
+/// Whatever arrives at a node: how a participant ended never changes, and one that closes or compensates, or has, completed by an
+/// act of its own before, whose record the node kept.
+pub fn each_participant_keeps_its_outcome()
+    ensures ended { (number : ℕ) (base : List ℕ) (more past : List Happening) (p : Part) (how : How) → HasCounters number (more ++ past)
+        → HasPart (node_then number base past) p → p.state ≡ part.Ended how
+        → HasPartIn (node_then number base (more ++ past)) p.id (part.Ended how) }
+    ensures completed { (number : ℕ) (base : List ℕ) (past : List Happening) (p : Part) → HasCounters number past
+        → HasPart (node_then number base past) p → IsTrue (has_completed p.state)
+        → Among (written_by number base past) (journal.Acted (counter p.id) act.Completed) }
 {}
