@@ -41,7 +41,7 @@ use Rattle.ba_scope_ends.specs.declared.ends.End.{End}
 use Rattle.ba_scope_ends.specs.declared.parts.Part.{Part}
 use Rattle.ba_node_steps.specs.declared.inputs.Input.{Input}
 use Rattle.ba_node_steps.specs.declared.inputs.Input.TheVariants as input
-use Rattle.ba_node_steps.specs.Lawful.{Event, given, ticked, change}
+use Rattle.ba_node_steps.specs.Lawful.{Event, given, ticked, formatted, change}
 use Rattle.ba_node_steps.specs.Node.{Among, EndPlace, NodeState, PartPlace, nowhere, lone, upward, next_id, part_in_place_of, scope_in_place_of}
 use Rattle.ba_node_steps.specs.Node.{with_lone, with_part_changed, with_scope}
 use Rattle.ba_node_steps.specs.Steps.{NodeStep, is_registering_state, node_step, same_end_state, same_part_state}
@@ -392,3 +392,4 @@ tick_changes n now id =
 pub changes : (n : NodeState) (e : Event) → (change n e).after ≡ n → (change n e).written ≡ None
 changes n (given now i) = input_changes n now i
 changes n (ticked now id) = tick_changes n now id
+changes n formatted = λ same. refl

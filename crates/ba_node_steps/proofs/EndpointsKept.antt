@@ -20,7 +20,7 @@ use Rattle.ba_scope_ends.specs.declared.parts.Part.{Part}
 use Rattle.ba_node_steps.specs.declared.inputs.Input.{Input}
 use Rattle.ba_node_steps.specs.declared.inputs.Input.TheVariants as input
 use Rattle.ba_node_steps.specs.Endpoints.{AllReachable, GivesFit, IsReachable, input_endpoints, part_endpoints, scope_endpoints}
-use Rattle.ba_node_steps.specs.Lawful.{Event, given, ticked, change}
+use Rattle.ba_node_steps.specs.Lawful.{Event, given, ticked, formatted, change}
 use Rattle.ba_node_steps.specs.Node.{Among, NodeState, PartPlace, nowhere, lone, upward, new_node, next_id, part_in_place_of, scope_in_place_of}
 use Rattle.ba_node_steps.specs.Node.{with_lone, with_new_part, with_new_scope, with_part_changed, with_scope}
 use Rattle.ba_node_steps.specs.Steps.{NodeStep, deadline_after, new_part, node_step}
@@ -237,6 +237,7 @@ tick_reaches n now id all =
 pub step_reaches : (n : NodeState) (e : Event) → GivesFit e → AllReachable n → AllReachable (change n e).after
 step_reaches n (given now i) fit all = input_reaches n now i fit all
 step_reaches n (ticked now id) fit all = tick_reaches n now id all
+step_reaches n formatted fit all = all
 
 pub new_reaches : (number : ℕ) (base : List ℕ) → AllReachable (new_node number base)
 new_reaches number base = tt

@@ -28,7 +28,7 @@ use Rattle.ba_node_steps.specs.declared.inputs.Input.{Input}
 use Rattle.ba_node_steps.specs.declared.inputs.Input.TheVariants as input
 use Rattle.ba_node_steps.specs.Endpoints.{GivesFit, input_endpoints}
 use Rattle.ba_node_steps.specs.Fits.{HasSpareCounters, IsIdAt, NodeFits}
-use Rattle.ba_node_steps.specs.Lawful.{Event, given, ticked, change}
+use Rattle.ba_node_steps.specs.Lawful.{Event, given, ticked, formatted, change}
 use Rattle.ba_node_steps.specs.Node.{EndPlace, NodeState, PartPlace, lone, upward, counter, last, next_id, scope_with_id}
 use Rattle.ba_node_steps.specs.Steps.{NodeStep, choice_number, node_step, refusal_number}
 use Rattle.ba_node_steps.specs.Ticks.{TickStep, tick_step}
@@ -178,3 +178,4 @@ pub in_range : (n : NodeState) (e : Event) (r : Record) → HasSpareCounters n �
     → InRange r
 in_range n (given now i) r spare fits fit kept = input_in_range n now i spare fits fit r kept
 in_range n (ticked now id) r spare fits fit kept = tick_in_range n now id fits r kept
+in_range n formatted r spare fits fit kept = absurd cc

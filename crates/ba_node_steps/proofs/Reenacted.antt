@@ -33,8 +33,8 @@ use Rattle.ba_node_steps.specs.declared.answers.Wake.TheVariants as wake
 use Rattle.ba_node_steps.specs.declared.inputs.Input.{Input}
 use Rattle.ba_node_steps.specs.declared.inputs.Input.TheVariants as input
 use Rattle.ba_node_steps.specs.Fits.{NodeFits}
-use Rattle.ba_node_steps.specs.Lawful.{Event, given, ticked, IsStepOf, act_event, after_record, change, current_context, enacted_again, event_of}
-use Rattle.ba_node_steps.specs.Lawful.{is_next, last_moment, notice_event, refused_event}
+use Rattle.ba_node_steps.specs.Lawful.{Event, given, ticked, formatted, IsStepOf, act_event, after_record, change, current_context, enacted_again}
+use Rattle.ba_node_steps.specs.Lawful.{event_of, is_next, last_moment, notice_event, refused_event}
 use Rattle.ba_node_steps.specs.Node.{Among, EndPlace, NodeState, PartPlace, lone, upward, counter, end_place, id_at, next_id, part_place}
 use Rattle.ba_node_steps.specs.Node.{scope_with_id, with_new_scope, with_scope}
 use Rattle.ba_node_steps.specs.Steps.{NodeStep, choice_number, create_scope, deadline_after, if_found, is_of_kind, new_part, node_step}
@@ -410,6 +410,7 @@ step_again n (ticked now id) fits r kept =
     let alike = ticks_alike n now id fits (ap is_some kept) in
     enacts n r (ticked last_moment id) told.0 told.1 (ap (λ (t : TickStep). t.written) alike ∙ kept)
     ∙ ap (λ (t : TickStep). Some t.after) alike
+step_again n formatted fits r kept = absurd cc
 
 pub after_of : (n : NodeState) (r : Record) (m : NodeState) → NodeFits n → IsStepOf n r m → after_record n r ≡ Some m
 after_of n r m fits step = step_again n step.event fits r step.keeps ∙ ap Some step.leads

@@ -6,7 +6,7 @@ use Rattle.ba_scope.specs.Scope.{ScopeState}
 use Rattle.ba_scope_ends.specs.declared.parts.Part.{Part}
 use Rattle.ba_node_steps.specs.declared.inputs.Input.{Input}
 use Rattle.ba_node_steps.specs.declared.inputs.Input.TheVariants as input
-use Rattle.ba_node_steps.specs.Lawful.{Event, given, ticked, change}
+use Rattle.ba_node_steps.specs.Lawful.{Event, given, ticked, formatted, change}
 use Rattle.ba_node_steps.specs.Node.{NodeState, PartPlace, SameNode, nowhere, lone, upward, with_part_changed}
 use Rattle.ba_node_steps.specs.Steps.{NodeStep, node_step}
 use Rattle.ba_node_steps.specs.Ticks.{TickStep, tick_step}
@@ -67,3 +67,4 @@ tick_keeps n now id =
 pub step_keeps : (n : NodeState) (e : Event) → SameNode n (change n e).after
 step_keeps n (given now i) = input_keeps n now i
 step_keeps n (ticked now id) = tick_keeps n now id
+step_keeps n formatted = same n

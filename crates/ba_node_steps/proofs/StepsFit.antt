@@ -35,7 +35,7 @@ use Rattle.ba_scope_ends.specs.declared.parts.Part.{Part}
 use Rattle.ba_node_steps.specs.declared.inputs.Input.{Input}
 use Rattle.ba_node_steps.specs.declared.inputs.Input.TheVariants as input
 use Rattle.ba_node_steps.specs.Fits.{HasSpareCounters, NodeFits}
-use Rattle.ba_node_steps.specs.Lawful.{Event, given, ticked, change}
+use Rattle.ba_node_steps.specs.Lawful.{Event, given, ticked, formatted, change}
 use Rattle.ba_node_steps.specs.Node.{Among, EndPlace, NodeState, PartPlace, nowhere, lone, upward, ids, last, new_node, next_id, scope_ids}
 use Rattle.ba_node_steps.specs.Node.{with_lone, with_part_changed, with_scope}
 use Rattle.ba_node_steps.specs.Steps.{NodeStep, deadline_after, is_registering_state, new_part, node_step}
@@ -315,6 +315,7 @@ tick_fits n now id fits =
 pub step_follows : (n : NodeState) (e : Event) → HasSpareCounters n → NodeFits n → Follows n (change n e).after
 step_follows n (given now i) room fits = input_fits n now i room fits
 step_follows n (ticked now id) room fits = tick_fits n now id fits
+step_follows n formatted room fits = stays n fits
 
 pub step_fits : (n : NodeState) (e : Event) → HasSpareCounters n → NodeFits n → NodeFits (change n e).after
 step_fits n e room fits = let next = step_follows n e room fits in next.fits

@@ -5,7 +5,7 @@ use Rattle.ba_core.specs.declared.protocols.Side.TheVariants.{Coordinator, Parti
 use Rattle.ba_record.specs.declared.records.Record.{Record}
 use Rattle.ba_node_steps.specs.declared.inputs.Input.{Input}
 use Rattle.ba_node_steps.specs.declared.inputs.Input.TheVariants as input
-use Rattle.ba_node_steps.specs.Lawful.{Event, given, ticked, change}
+use Rattle.ba_node_steps.specs.Lawful.{Event, given, ticked, formatted, change}
 use Rattle.ba_node_steps.specs.Node.{NodeState}
 use Rattle.ba_node_steps.specs.Steps.{NodeStep, node_step}
 use Rattle.ba_node_steps.specs.Ticks.{TickStep, tick_step}
@@ -63,3 +63,4 @@ tick_unchanged n now id =
 pub unchanged : (n : NodeState) (e : Event) → (change n e).written ≡ None → (change n e).after ≡ n
 unchanged n (given now i) = input_unchanged n now i
 unchanged n (ticked now id) = tick_unchanged n now id
+unchanged n formatted = λ none. refl

@@ -9,7 +9,7 @@ use Rattle.ba_scope.specs.Scope.{ScopeState}
 use Rattle.ba_scope_ends.specs.declared.parts.Part.{Part}
 use Rattle.ba_node_steps.specs.declared.inputs.Input.{Input}
 use Rattle.ba_node_steps.specs.declared.inputs.Input.TheVariants as input
-use Rattle.ba_node_steps.specs.Lawful.{Event, given, ticked}
+use Rattle.ba_node_steps.specs.Lawful.{Event, given, ticked, formatted}
 use Rattle.ba_node_steps.specs.Node.{NodeState}
 use Rattle.ba_tree.specs.Trees.{joined}
 
@@ -44,6 +44,7 @@ input_endpoints i = []
 abbrev pub event_endpoints : Event → List Epr
 event_endpoints (given now i) = input_endpoints i
 event_endpoints (ticked now id) = []
+event_endpoints formatted = []
 
 -- what is given fits
 abbrev pub GivesFit : Event → Type 0

@@ -24,10 +24,12 @@ use Rattle.ba_node_steps.specs.Node.{NodeState, PartPlace, upward, counter, end_
 use Rattle.ba_node_steps.specs.Steps.{choice_number, complete_number, node_step}
 use Rattle.ba_node_steps.specs.Ticks.{tick_step}
 
--- what happens to a node, at a moment
+-- What happens to a node: at a moment an input, or a tick of the object with this identifier; or the format of its
+-- journal is set, which changes nothing and isn't recorded, for there is one format.
 pub data Event : Type 0 where
   given : ℕ → Input → Event
   ticked : ℕ → Id → Event
+  formatted : Event
 
 -- the node after it, and the record that is kept
 pub record Change : Type 0 where
@@ -37,8 +39,13 @@ pub record Change : Type 0 where
 abbrev pub change : NodeState → Event → Change
 change n (given now i) = let step = node_step n now i in record { after = step.after; written = step.written }
 change n (ticked now id) = let step = tick_step n now id in record { after = step.after; written = step.written }
+change n formatted = record { after = n; written = None }
 
 -- ---- lawful lists
+
+-- what the journal of a new node keeps
+abbrev pub first_records : ℕ → List ℕ → List Record
+first_records number base = journal.Node number base ∷ []
 
 -- the record is that of some step of the node, which leads to the node after it
 pub record IsStepOf (n : NodeState) (r : Record) (after : NodeState) : Type 0 where
