@@ -18,7 +18,7 @@ use Rattle.ba_node_steps.specs.declared.inputs.Input.TheVariants as input
 use Rattle.ba_world_runs.specs.Links.{HasEnd, IsLink}
 use Rattle.ba_world_runs.specs.Safety.{EndpointsLead, IsAddressed, KeepsItsEnd, MailFits, of_enrolment, of_fault}
 use Rattle.ba_world_runs.specs.World.{Mail, Net, Occasion, PartAt, ScopeAt, answer, coordinator_at, delivers, letter, own, participant_at}
-use Rattle.ba_world_runs.specs.World.{registration_at, node_at, ticks}
+use Rattle.ba_world_runs.specs.World.{formats, registration_at, node_at, ticks}
 use Rattle.ba_world_runs.specs.WorldSteps.{IsContextOf, IsPossible, IsRegistration, BringsInput, Moves, effect}
 use Rattle.ba_world_runs.proofs.Goes.{EndComes, EndIsNew, Enrols, IsTold, Makes, NodeGoes, SamePart, Tells, itself}
 use Rattle.ba_world_runs.proofs.Owners.{one_number}
@@ -32,11 +32,13 @@ abbrev pub cause_of : Occasion → Option Input
 cause_of (own now i) = Some i
 cause_of (delivers now mail i) = Some i
 cause_of (ticks now id) = None
+cause_of formats = None
 
 after_goes : (n : NodeState) (o : Occasion) → NodeFits n → NodeGoes (cause_of o) n (effect n o).after
 after_goes n (own now i) fits = input_goes n now i fits
 after_goes n (delivers now mail i) fits = input_goes n now i fits
 after_goes n (ticks now id) fits = tick_goes n now id fits
+after_goes n formats fits = itself None n
 
 -- ---- what an occasion can bring, in a net where each message says where it comes from
 
@@ -73,6 +75,7 @@ enrols_sender w k (delivers now (answer number m) (input.Register scope0 protoco
     absurd (no_register (node_at w k) number m scope0 protocol0 participant possible.1)
 enrols_sender w k (delivers now mail i) scope protocol endpoint is possible enrols = absurd enrols
 enrols_sender w k (ticks now id) scope protocol endpoint is possible enrols = absurd enrols
+enrols_sender w k formats scope protocol endpoint is possible enrols = absurd enrols
 
 pub no_create : (n : NodeState) (m : Mail) (expires : Option ℕ) (current : Option Context) (kind : Option Kind) (protocol : Protocol)
     → BringsInput n m (input.Create expires current kind protocol) → ⊥
@@ -102,6 +105,7 @@ makes_registration w k (delivers now mail (input.Join protocol registration)) r 
     absurd (no_join (node_at w k) mail protocol registration possible.1)
 makes_registration w k (delivers now mail i) r possible makes = absurd makes
 makes_registration w k (ticks now id) r possible makes = absurd makes
+makes_registration w k formats r possible makes = absurd makes
 
 -- a participant is told the endpoint of its own end
 abbrev pub IsItsEnd : Net → ℕ → Part → Epr → Type 0
@@ -133,6 +137,7 @@ tells_end w k (delivers now (answer number m) (input.Enrolled id c0)) p c is pos
 tells_end w k (delivers now (letter l) (input.Enrolled id c0)) p c is possible has tells = absurd (possible.1)
 tells_end w k (delivers now mail i) p c is possible has tells = absurd tells
 tells_end w k (ticks now id) p c is possible has tells = absurd tells
+tells_end w k formats p c is possible has tells = absurd tells
 
 -- ---- a move
 

@@ -38,7 +38,7 @@ use Rattle.ba_node_steps.specs.Node.{Among, NodeState, next_id}
 use Rattle.ba_world_runs.specs.Links.{link_in}
 use Rattle.ba_world_runs.specs.Runs.{IsRun, WasCompleted, earlier, goes_on, is_closing_state, now, starts}
 use Rattle.ba_world_runs.specs.Safety.{IsAddressed, IsSound, MailFits, of_end, of_part, of_register}
-use Rattle.ba_world_runs.specs.World.{Net, Occasion, ScopeAt, World, WorldNode, delivers, letter, net_of, node_at, own, participant_at, ticks}
+use Rattle.ba_world_runs.specs.World.{formats, Net, Occasion, ScopeAt, World, WorldNode, delivers, letter, net_of, node_at, own, participant_at, ticks}
 use Rattle.ba_world_runs.specs.WorldSteps.{Moves, WorldStep, effect}
 use Rattle.ba_world_runs.proofs.Addressed.{cause_of}
 use Rattle.ba_world_runs.proofs.AddressedRuns.{run_addressed}
@@ -146,6 +146,7 @@ after_states : (n : NodeState) (o : Occasion) → NodeFits n → StatesGo (cause
 after_states n (own moment i) fits = input_states n moment i fits
 after_states n (delivers moment mail i) fits = input_states n moment i fits
 after_states n (ticks moment id) fits = tick_states n moment id fits
+after_states n formats fits = states_stay None (next_id n 1) n.scopes
 
 pub moved_states : (w w2 : Net) (k : ℕ) (o : Occasion) (joined : Bool) → Moves w w2 k o joined → IsAddressed w → (j : ℕ)
     → StatesGo (cause_of o) (next_id (node_at w k) 1) (node_at w j).scopes (node_at w2 j).scopes

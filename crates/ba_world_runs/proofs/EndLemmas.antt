@@ -32,15 +32,15 @@ same_verdict_of (Some Undo) Undo h = refl
 pub record EndParts (s : ScopeState) (e : End) : Type 0 where
   pub verdict : verdict_fits_state e.state e.verdict ≡ true
   pub scope : verdict_fits_scope (up_state s.up) s.kind s.verdict e.verdict (own_choice e) ≡ true
-  pub state : state_fits_above (up_state s.up) e.state ≡ true
+  pub state : state_fits_above (up_state s.up) e.verdict e.state ≡ true
 
 pub end_parts : (s : ScopeState) (e : End) → end_fits (above s) e ≡ true → EndParts s e
 end_parts s e fit =
     let both = and_parts (is_end_state e.protocol e.state && verdict_fits_state e.state e.verdict)
-    (verdict_fits_scope (up_state s.up) s.kind s.verdict e.verdict (own_choice e) && state_fits_above (up_state s.up) e.state) fit in
+    (verdict_fits_scope (up_state s.up) s.kind s.verdict e.verdict (own_choice e) && state_fits_above (up_state s.up) e.verdict e.state) fit in
     let own = and_parts (is_end_state e.protocol e.state) (verdict_fits_state e.state e.verdict) both.0 in
     let seen = and_parts (verdict_fits_scope (up_state s.up) s.kind s.verdict e.verdict (own_choice e))
-    (state_fits_above (up_state s.up) e.state) both.1 in
+    (state_fits_above (up_state s.up) e.verdict e.state) both.1 in
     record { verdict = own.1; scope = seen.0; state = seen.1 }
 
 -- in an AtomicOutcome root an end's verdict is the scope's
@@ -61,5 +61,5 @@ childs_verdict s up e v is_up fit has =
 
 -- below an upward part an end's state goes with that part's
 pub state_below : (s : ScopeState) (up : Part) (e : End) → s.up ≡ Some up → end_fits (above s) e ≡ true
-    → state_fits_above (Some up.state) e.state ≡ true
-state_below s up e is fit = subst (λ (u : Option Part). state_fits_above (up_state u) e.state ≡ true) is (end_parts s e fit).state
+    → state_fits_above (Some up.state) e.verdict e.state ≡ true
+state_below s up e is fit = subst (λ (u : Option Part). state_fits_above (up_state u) e.verdict e.state ≡ true) is (end_parts s e fit).state

@@ -18,7 +18,7 @@ use Rattle.ba_node_steps.proofs.Objects.{ids_in_scopes, in_scopes, lone_ids, own
 use Rattle.ba_world_runs.specs.Runs.{IsRun, IsFirstWorld, goes_on, starts}
 use Rattle.ba_world_runs.specs.Safety.{IsAddressed}
 use Rattle.ba_world_runs.specs.Trees.{GenerationsFit, IsChild}
-use Rattle.ba_world_runs.specs.World.{Net, Occasion, ScopeAt, World, WorldNode, delivers, net_of, own, registration_at, node_at, ticks}
+use Rattle.ba_world_runs.specs.World.{formats, Net, Occasion, ScopeAt, World, WorldNode, delivers, net_of, own, registration_at, node_at, ticks}
 use Rattle.ba_world_runs.specs.WorldSteps.{IsContextOf, IsPossible, Moves, WorldStep}
 use Rattle.ba_world_runs.proofs.Addressed.{cause_of, goes, grows, no_create, registration_stays}
 use Rattle.ba_world_runs.proofs.AddressedRuns.{run_addressed}
@@ -46,6 +46,7 @@ child_context w k (delivers now mail (input.Create expires current kind0 protoco
     absurd (no_create (node_at w k) mail expires current kind0 protocol possible.1)
 child_context w k (delivers now mail i) r kind possible makes = absurd makes
 child_context w k (ticks now id) r kind possible makes = absurd makes
+child_context w k formats r kind possible makes = absurd makes
 
 module _ (w w2 : Net) (k : ℕ) (o : Occasion) (joined : Bool) (moves : Moves w w2 k o joined) (is : IsAddressed w)
     (before : GenerationsFit w) where

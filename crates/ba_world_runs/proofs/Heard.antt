@@ -30,7 +30,7 @@ use Rattle.ba_node_steps.proofs.Places.{first_is}
 use Rattle.ba_world_runs.specs.Links.{answered_by, on_link, said_down, said_up}
 use Rattle.ba_world_runs.specs.Safety.{IsAddressed, MailFits, of_end, of_part, of_register}
 use Rattle.ba_world_runs.specs.World.{Mail, Net, Occasion, PartAt, ScopeAt, answer, coordinator_at, delivers, letter, node_at, own}
-use Rattle.ba_world_runs.specs.World.{participant_at, registration_at, ticks}
+use Rattle.ba_world_runs.specs.World.{formats, participant_at, registration_at, ticks}
 use Rattle.ba_world_runs.specs.WorldSteps.{BringsInput, IsPossible}
 use Rattle.ba_world_runs.proofs.Addressed.{cause_of}
 use Rattle.ba_world_runs.proofs.Letters.{among_contains, coordinator_is, heard_above, heard_below, sent_here}
@@ -140,6 +140,7 @@ module _ (w : Net) (is : IsAddressed w) where
       absurd (no_notice (node_at w k) number m side id n possible.1)
   heard_at_scope k (delivers now mail i) possible j p s has of x hears = absurd hears
   heard_at_scope k (ticks now id) possible j p s has of x hears = absurd hears
+  heard_at_scope k formats possible j p s has of x hears = absurd hears
 
   -- ---- at a participant
 
@@ -173,3 +174,4 @@ module _ (w : Net) (is : IsAddressed w) where
   heard_at_part k (delivers now (letter l) (input.RefusedBy id c)) possible p has x hears = absurd (possible.1)
   heard_at_part k (delivers now mail i) possible p has x hears = absurd hears
   heard_at_part k (ticks now id) possible p has x hears = absurd hears
+  heard_at_part k formats possible p has x hears = absurd hears

@@ -29,7 +29,7 @@ use Rattle.ba_node_steps.proofs.Places.{first_is}
 use Rattle.ba_world_runs.specs.Links.{Begins, IsLink, IsNewAt, LinksStay, LinksStep, StepsFrom, StepsOrStays, link_in, side_of}
 use Rattle.ba_world_runs.specs.Safety.{IsAddressed}
 use Rattle.ba_world_runs.specs.Trees.{GenerationsFit}
-use Rattle.ba_world_runs.specs.World.{Net, Occasion, PartAt, ScopeAt, delivers, node_at, own, participant_at, registration_at, ticks}
+use Rattle.ba_world_runs.specs.World.{formats, Net, Occasion, PartAt, ScopeAt, delivers, node_at, own, participant_at, registration_at, ticks}
 use Rattle.ba_world_runs.specs.WorldSteps.{IsPossible, IsRegistration, Moves, effect}
 use Rattle.ba_world_runs.proofs.Addressed.{base_stays, cause_of, goes, link_goes, no_create, no_join}
 use Rattle.ba_world_runs.proofs.Goes.{Enrols, Makes}
@@ -55,6 +55,7 @@ makes_silently w k (delivers now mail (input.Join protocol registration)) r poss
     absurd (no_join (node_at w k) mail protocol registration possible.1)
 makes_silently w k (delivers now mail i) r possible makes = absurd makes
 makes_silently w k (ticks now id) r possible makes = absurd makes
+makes_silently w k formats r possible makes = absurd makes
 
 not_both : (cause : Option Input) (r : Epr) (s : Id) (p : Protocol) (e : Epr) → Makes cause r → Enrols cause s p e → ⊥
 not_both (Some (input.Register scope protocol participant)) r s p e makes enrols = makes

@@ -24,7 +24,7 @@ use Rattle.ba_node_steps.specs.Ticks.{tick_step}
 use Rattle.ba_world_runs.specs.Links.{IsLink}
 use Rattle.ba_world_runs.specs.Safety.{IsAddressed, MailFits, of_end, of_enrolment, of_fault, of_part, of_register}
 use Rattle.ba_world_runs.specs.World.{Mail, Net, Occasion, PartAt, ScopeAt, answer, coordinator_at, delivers, letter, own, participant_at}
-use Rattle.ba_world_runs.specs.World.{registration_at, node_at, ticks}
+use Rattle.ba_world_runs.specs.World.{formats, registration_at, node_at, ticks}
 use Rattle.ba_world_runs.specs.WorldSteps.{BringsInput, Moves, answer_to, effect}
 use Rattle.ba_world_runs.proofs.Addressed.{base_stays, cause_of, coordinator_stays, endpoint_stays, endpoints_lead, goes, grows, link_goes}
 use Rattle.ba_world_runs.proofs.Goes.{SamePart, from_append}
@@ -169,6 +169,7 @@ module _ (w w2 : Net) (k : ℕ) (o : Occasion) (joined : Bool) (moves : Moves w 
 new_mail : (w w2 : Net) (k : ℕ) (o : Occasion) (joined : Bool) → Moves w w2 k o joined → IsAddressed w → (m : Mail)
     → (effect (node_at w k) o).sends ≡ Some m → MailFits w2 m
 new_mail w w2 k (own now i) joined moves is m sends = none_sent None m refl sends
+new_mail w w2 k formats joined moves is m sends = none_sent None m refl sends
 new_mail w w2 k (delivers now (letter l) i) joined moves is m sends =
     delivered w w2 k (delivers now (letter l) i) joined moves is l now i moves.possible.0 moves.possible.1 moves.state m sends
 new_mail w w2 k (delivers now (answer number x) i) joined moves is m sends =

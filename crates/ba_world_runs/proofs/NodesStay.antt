@@ -42,7 +42,7 @@ pub record NodeStays (n m : NodeState) : Type 0 where
   pub base : m.base ≡ n.base
   pub scopes : (s : ScopeState) → Among n.scopes s → HasLike m.scopes s
 
-itself : (n : NodeState) → NodeStays n n
+pub itself : (n : NodeState) → NodeStays n n
 itself n = record { number = refl; base = refl; scopes = λ s among. (s, among, refl, refl) }
 
 -- ---- a changed object

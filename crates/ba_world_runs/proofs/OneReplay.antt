@@ -5,14 +5,14 @@ use Rattle.std.proofs.lemmas.List.{append-nil}
 use Rattle.ba_record.specs.declared.records.Record.{Record}
 use Rattle.ba_record.specs.declared.records.Record.TheVariants as journal
 use Rattle.ba_node_steps.specs.Fits.{NodeFits}
-use Rattle.ba_node_steps.specs.Lawful.{Event, IsStepOf, LeadsTo, Replays, change, given, ticked}
+use Rattle.ba_node_steps.specs.Lawful.{Event, IsStepOf, LeadsTo, Replays, change, formatted, given, ticked}
 use Rattle.ba_node_steps.specs.Node.{NodeState, new_node}
 use Rattle.ba_node_steps.proofs.Enacted.{some_is}
 use Rattle.ba_node_steps.proofs.Reenacted.{after_of}
 use Rattle.ba_node_steps.proofs.Unchanged.{unchanged}
 use Rattle.ba_world_runs.specs.Runs.{IsFirstWorld, IsRun, goes_on, node_at_start, starts}
 use Rattle.ba_world_runs.specs.Safety.{IsItsRecords}
-use Rattle.ba_world_runs.specs.World.{Mode, Occasion, World, WorldNode, delivers, own, ticks}
+use Rattle.ba_world_runs.specs.World.{formats, Mode, Occasion, World, WorldNode, delivers, own, ticks}
 use Rattle.ba_world_runs.specs.WorldSteps.{Stays, Takes, WorldStep, crashes, effect, fails, fails_to_open, happens, nothing, opens_with}
 use Rattle.ba_world_runs.specs.WorldSteps.{opens_without, waits}
 use Rattle.ba_world_runs.proofs.Recorded.{at_or_other, run_keeps}
@@ -54,6 +54,7 @@ pub only_after : (records : List Record) (n : NodeState) (o : Occasion) → Node
 only_after records n (own now i) = only_goes_on records n (given now i)
 only_after records n (delivers now mail i) = only_goes_on records n (given now i)
 only_after records n (ticks now id) = only_goes_on records n (ticked now id)
+only_after records n formats = only_goes_on records n formatted
 
 -- ---- the nodes of a world
 

@@ -46,7 +46,7 @@ use Rattle.ba_node_steps.proofs.Places.{end_found}
 use Rattle.ba_world_runs.specs.Records.{RecordsOutcome, WasRecorded, by_earlier_step, by_last_step}
 use Rattle.ba_world_runs.specs.Runs.{IsFirstWorld, IsRun, goes_on, starts}
 use Rattle.ba_world_runs.specs.Safety.{IsAddressed}
-use Rattle.ba_world_runs.specs.World.{Mode, Occasion, World, WorldNode, answer, delivers, letter, net_of, own, ticks}
+use Rattle.ba_world_runs.specs.World.{formats, Mode, Occasion, World, WorldNode, answer, delivers, letter, net_of, own, ticks}
 use Rattle.ba_world_runs.specs.WorldSteps.{BringsInput, IsPossible, Stays, Takes, WorldStep, crashes, effect, fails, fails_to_open, happens}
 use Rattle.ba_world_runs.specs.WorldSteps.{nothing, opens_with, opens_without, waits}
 use Rattle.ba_world_runs.proofs.AddressedRuns.{run_addressed}
@@ -364,6 +364,7 @@ module _ (w w2 : World) (k : ℕ) (is : IsAddressed (net_of w)) (id : Id) (m : N
         leads_on = of.leads;
       }
   by_occasion (ticks moment x) joined takes h = absurd (no_tick_tells (w.nodes k).state moment x (counter id) m h)
+  by_occasion formats joined takes h = absurd cc
 
   come_recorded : WorldStep w w2 → Among (w2.nodes k).records (journal.Received (counter id) m)
       → Among (w.nodes k).records (journal.Received (counter id) m) ⊎ RecordsOutcome w w2 k id m

@@ -20,7 +20,7 @@ use Rattle.ba_node_steps.specs.declared.answers.Reply.TheVariants as reply
 use Rattle.ba_world_runs.specs.Records.{HasActed, IsActed, acted_earlier, acted_last}
 use Rattle.ba_world_runs.specs.Runs.{IsFirstWorld, IsRun, goes_on, starts}
 use Rattle.ba_world_runs.specs.Safety.{IsAddressed}
-use Rattle.ba_world_runs.specs.World.{Mail, Net, Occasion, PartAt, World, WorldNode, answer, delivers, letter, net_of, own, ticks}
+use Rattle.ba_world_runs.specs.World.{formats, Mail, Net, Occasion, PartAt, World, WorldNode, answer, delivers, letter, net_of, own, ticks}
 use Rattle.ba_world_runs.specs.WorldSteps.{Takes, WorldStep, answer_to, crashes, effect, fails, fails_to_open, happens, nothing, opens_with}
 use Rattle.ba_world_runs.specs.WorldSteps.{opens_without, waits}
 use Rattle.ba_world_runs.proofs.Addressed.{goes}
@@ -28,7 +28,7 @@ use Rattle.ba_world_runs.proofs.AddressedRuns.{run_addressed}
 use Rattle.ba_world_runs.proofs.Goes.{from_append}
 use Rattle.ba_world_runs.proofs.MailLemmas.{joins}
 use Rattle.ba_world_runs.proofs.Nets.{stays_net}
-use Rattle.ba_world_runs.proofs.PartsSay.{SaidBefore, SaysGo, input_says, tick_goes_on, tick_letter_says}
+use Rattle.ba_world_runs.proofs.PartsSay.{SaidBefore, SaysGo, input_says, says_stay, tick_goes_on, tick_letter_says}
 use Rattle.ba_world_runs.proofs.Recorded.{at_or_other}
 
 -- ---- a step of a world leaves its net, or is one that is taken
@@ -50,6 +50,7 @@ after_says : (n : NodeState) (o : Occasion) → SaysGo n (effect n o).after (eff
 after_says n (own moment i) = input_says n moment i
 after_says n (delivers moment mail i) = input_says n moment i
 after_says n (ticks moment id) = tick_goes_on n moment id
+after_says n formats = says_stay n None
 
 -- ---- what holds of each world of a run
 
@@ -123,6 +124,7 @@ module _ (w w2 : World) (before : List World) (k : ℕ) (o : Occasion) (joined :
       by_occasion : (at : Occasion) → o ≡ at → (l : Letter) (x : Notice) → (effect (w.nodes k).state at).sends ≡ Some (letter l)
           → l.message ≡ message.Notice x → is_outcome x ≡ true → ToldBy w2 (w ∷ before) l x
       by_occasion (own moment i) at l x sends told outcome = absurd cc
+      by_occasion formats at l x sends told outcome = absurd cc
       by_occasion (delivers moment mail i) at l x sends told outcome =
           absurd (no_letter mail (node_step (w.nodes k).state moment i).reply l sends)
       by_occasion (ticks moment id) at l x sends told outcome =

@@ -8,7 +8,7 @@ use Rattle.ba_record.specs.declared.records.Record.{Record}
 use Rattle.ba_scope.specs.Scope.{ScopeState}
 use Rattle.ba_node_steps.specs.Addresses.{registration_of}
 use Rattle.ba_node_steps.specs.Fits.{HasSpareCounters, NodeFits}
-use Rattle.ba_node_steps.specs.Lawful.{Event, Replays, given, ticked}
+use Rattle.ba_node_steps.specs.Lawful.{Event, Replays, formatted, given, ticked}
 use Rattle.ba_node_steps.specs.Node.{Among, NodeState}
 use Rattle.ba_node_steps.specs.declared.inputs.Input.{Input}
 use Rattle.ba_node_steps.specs.declared.inputs.Input.TheVariants as input
@@ -16,9 +16,9 @@ use Rattle.ba_node_steps.proofs.Members.{among_left}
 use Rattle.ba_node_steps.proofs.Replayed.{goes_on}
 use Rattle.ba_node_steps.proofs.StepsFit.{step_fits}
 use Rattle.ba_world_runs.specs.Safety.{FitsAt}
-use Rattle.ba_world_runs.specs.World.{Mail, Net, Occasion, ScopeAt, World, delivers, net_of, own, registration_at, node_at, ticks}
+use Rattle.ba_world_runs.specs.World.{formats, Mail, Net, Occasion, ScopeAt, World, delivers, net_of, own, registration_at, node_at, ticks}
 use Rattle.ba_world_runs.specs.WorldSteps.{IsContextOf, IsPossible, BringsInput, MayStillBeTaken, Moves, effect}
-use Rattle.ba_world_runs.proofs.NodesStay.{NodeStays, input_stays, tick_stays}
+use Rattle.ba_world_runs.proofs.NodesStay.{NodeStays, input_stays, itself, tick_stays}
 
 -- ---- an occasion is an event of its node
 
@@ -26,22 +26,26 @@ abbrev pub event_at : Occasion → Event
 event_at (own now i) = given now i
 event_at (delivers now mail i) = given now i
 event_at (ticks now id) = ticked now id
+event_at formats = formatted
 
 pub after_fits : (n : NodeState) (o : Occasion) → NodeFits n → HasSpareCounters n → NodeFits (effect n o).after
 after_fits n (own now i) fits room = step_fits n (given now i) room fits
 after_fits n (delivers now mail i) fits room = step_fits n (given now i) room fits
 after_fits n (ticks now id) fits room = step_fits n (ticked now id) room fits
+after_fits n formats fits room = step_fits n formatted room fits
 
 pub after_stays : (n : NodeState) (o : Occasion) → NodeFits n → NodeStays n (effect n o).after
 after_stays n (own now i) fits = input_stays n now i fits
 after_stays n (delivers now mail i) fits = input_stays n now i fits
 after_stays n (ticks now id) fits = tick_stays n now id fits
+after_stays n formats fits = itself n
 
 pub replay_goes_on : (records : List Record) (n : NodeState) (o : Occasion) → Replays records n
     → Replays (records ++ option_to_list (effect n o).written) (effect n o).after
 replay_goes_on records n (own now i) replays = goes_on records n (given now i) replays
 replay_goes_on records n (delivers now mail i) replays = goes_on records n (given now i) replays
 replay_goes_on records n (ticks now id) replays = goes_on records n (ticked now id) replays
+replay_goes_on records n formats replays = goes_on records n formatted replays
 
 -- ---- a net in which nothing is forgotten: what was sent stays sent, each node keeps its base, and its scopes by their kinds
 
@@ -84,6 +88,7 @@ possible_stays w w2 grows k (own now i) same is = own_stays w w2 grows k now i i
 possible_stays w w2 grows k (delivers now mail i) same is =
     (grows.bag mail is.0, subst (λ (n : NodeState). BringsInput n mail i) (sym same) is.1)
 possible_stays w w2 grows k (ticks now id) same is = tt
+possible_stays w w2 grows k formats same is = tt
 
 -- ---- what is pending may still be taken
 

@@ -34,7 +34,7 @@ use Rattle.ba_node_steps.proofs.Objects.{no_end_is_a_part, one_part}
 use Rattle.ba_world_runs.specs.Links.{IsLink, answered_by, on_link, said_down, said_up}
 use Rattle.ba_world_runs.specs.Safety.{IsAddressed, MailFits, of_end, of_part, of_register}
 use Rattle.ba_world_runs.specs.World.{Mail, Net, Occasion, PartAt, ScopeAt, answer, delivers, letter, node_at, own, participant_at}
-use Rattle.ba_world_runs.specs.World.{registration_at, ticks}
+use Rattle.ba_world_runs.specs.World.{formats, registration_at, ticks}
 use Rattle.ba_world_runs.specs.WorldSteps.{BringsInput, IsPossible, answer_to, effect}
 use Rattle.ba_world_runs.proofs.Heard.{by_address, by_number, by_sender, off_number}
 use Rattle.ba_world_runs.proofs.Letters.{coordinator_is}
@@ -326,6 +326,7 @@ abbrev pub IsSpeechOf : NodeState → Occasion → Speech → Type 0
 IsSpeechOf n (own now i) speech = speech ≡ answer_of i (node_step n now i).reply
 IsSpeechOf n (delivers now mail i) speech = speech ≡ answer_of i (node_step n now i).reply
 IsSpeechOf n (ticks now id) speech = Sends n speech (tick_step n now id).letter
+IsSpeechOf n formats speech = speech ≡ silent
 
 pub spoken : (w : Net) (is : IsAddressed w) (k : ℕ) (o : Occasion) (speech : Speech) → IsPossible w k o → IsSpeechOf (node_at w k) o speech
     → SpeechStands (node_at w k) speech → Spoken w k speech (effect (node_at w k) o).sends
@@ -335,3 +336,4 @@ spoken w is k (delivers now mail i) speech possible its stands =
     let r : Reply = (node_step (node_at w k) now i).reply in
     subst (λ (x : Speech). Spoken w k x (answer_to mail r)) (sym its) (answer_spoken w is k mail i r possible.0 possible.1)
 spoken w is k (ticks now id) speech possible its stands = tick_spoken w is k speech _ its stands
+spoken w is k formats speech possible its stands = subst (λ (x : Speech). Spoken w k x None) (sym its) says_nothing

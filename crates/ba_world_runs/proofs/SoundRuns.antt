@@ -8,7 +8,7 @@ use Rattle.ba_node_steps.specs.declared.inputs.Input.TheVariants as input
 use Rattle.ba_world_runs.specs.Links.{LinksStay, LinksStep, link_in}
 use Rattle.ba_world_runs.specs.Runs.{IsRun, IsFirstWorld, goes_on, starts}
 use Rattle.ba_world_runs.specs.Safety.{IsAddressed, IsSafe, IsSound, IsSoundWorld}
-use Rattle.ba_world_runs.specs.World.{Mail, Net, Occasion, World, WorldNode, answer, delivers, letter, net_of, node_at, own, ticks}
+use Rattle.ba_world_runs.specs.World.{formats, Mail, Net, Occasion, World, WorldNode, answer, delivers, letter, net_of, node_at, own, ticks}
 use Rattle.ba_world_runs.specs.WorldSteps.{BringsInput, IsPossible, Moves, WorldStep, effect}
 use Rattle.ba_world_runs.proofs.Addressed.{cause_of}
 use Rattle.ba_world_runs.proofs.AddressedRuns.{run_addressed}
@@ -21,7 +21,7 @@ use Rattle.ba_world_runs.proofs.Recorded.{run_keeps, step_keeps}
 use Rattle.ba_world_runs.proofs.SafeLemmas.{safe}
 use Rattle.ba_world_runs.proofs.Said.{IsSpeechOf}
 use Rattle.ba_world_runs.proofs.Senders.{no_register, sender}
-use Rattle.ba_world_runs.proofs.Strides.{Change, NamesItsProtocol, Speech}
+use Rattle.ba_world_runs.proofs.Strides.{Change, NamesItsProtocol, Speech, no_object, silent}
 use Rattle.ba_world_runs.proofs.StridesOfInputs.{input_changes}
 use Rattle.ba_world_runs.proofs.StridesOfTicks.{tick_changes}
 use Rattle.ba_world_runs.proofs.TreeSteps.{trees_fit}
@@ -55,6 +55,7 @@ changes w is k (own now i) possible =
 changes w is k (delivers now mail i) possible =
     (_, refl, input_changes (node_at w k) now i (fits_here w is k) (names_protocol w is k mail i possible.0 possible.1))
 changes w is k (ticks now id) possible = tick_changes (node_at w k) now id (fits_here w is k)
+changes w is k formats possible = (silent, refl, no_object refl tt)
 
 -- ---- a move
 

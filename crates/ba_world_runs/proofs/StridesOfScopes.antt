@@ -134,7 +134,7 @@ each_may_undo = refl
 expiry_sets : (a : Seen) (e : End) → end_fits a e ≡ true → e.verdict ≡ None → MayBeSet Undo e
 expiry_sets a e fit none =
     let own = and_parts (is_end_state e.protocol e.state && verdict_fits_state e.state e.verdict)
-    (verdict_fits_scope a.up a.kind a.verdict e.verdict (own_choice e) && state_fits_above a.up e.state) fit in
+    (verdict_fits_scope a.up a.kind a.verdict e.verdict (own_choice e) && state_fits_above a.up e.verdict e.state) fit in
     let goes = (and_parts (is_end_state e.protocol e.state) (verdict_fits_state e.state e.verdict) own.0).1 in
     let open_ = subst (λ (v : Option Verdict). verdict_fits_state e.state v ≡ true) none goes in
     let by_protocol = protocol_passes (λ protocol. list_all (may_undo protocol) ends) each_may_undo e.protocol in

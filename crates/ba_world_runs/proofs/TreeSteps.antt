@@ -1,6 +1,6 @@
 -- Each move of a sound net keeps trees fit: a child with a verdict has an end above it, and that end has the same verdict; for the
 -- law that trees stay fit.
-use Rattle.std.proofs.Common.{◌≡◌, inl, inr, ℕ, Bool, Some, refl, sym, ap, ◌∙◌, subst}
+use Rattle.std.proofs.Common.{None, ◌≡◌, inl, inr, ℕ, Bool, Some, refl, sym, ap, ◌∙◌, subst}
 use Rattle.ba_core.specs.declared.identifiers.Id.{Id}
 use Rattle.ba_core.specs.declared.notices.Notice.{Notice}
 use Rattle.ba_core.specs.declared.protocols.Side.TheVariants.{Participant}
@@ -20,7 +20,7 @@ use Rattle.ba_world_runs.specs.Safety.{IsSound}
 use Rattle.ba_world_runs.specs.Trees.{HasVerdictAbove, IsChild, TreesFit}
 use Rattle.ba_node_steps.specs.WordsTold.{word_told}
 use Rattle.ba_world_runs.specs.World.{Net, Occasion, PartAt, ScopeAt, answer, delivers, letter, node_at, own, participant_at, registration_at}
-use Rattle.ba_world_runs.specs.World.{ticks}
+use Rattle.ba_world_runs.specs.World.{formats, ticks}
 use Rattle.ba_world_runs.specs.WorldSteps.{IsPossible, BringsInput, Moves, effect}
 use Rattle.ba_world_runs.proofs.Addressed.{cause_of, endpoint_stays, registration_stays}
 use Rattle.ba_world_runs.proofs.Generations.{generations}
@@ -35,6 +35,7 @@ after_verdicts : (n : NodeState) (o : Occasion) → NodeFits n → VerdictsStay 
 after_verdicts n (own now i) fits = input_verdicts n now i fits
 after_verdicts n (delivers now mail i) fits = input_verdicts n now i fits
 after_verdicts n (ticks now id) fits = tick_verdicts n now id fits
+after_verdicts n formats fits = stays_all None n.scopes
 
 -- ---- a word that an occasion tells was sent
 
@@ -69,6 +70,7 @@ word_sent_to w k (delivers now (answer number m) (input.Notice Participant id n)
     absurd (no_notice w k number m id n possible.1)
 word_sent_to w k (delivers now mail i) part v possible tells = absurd tells
 word_sent_to w k (ticks now id) part v possible tells = absurd tells
+word_sent_to w k formats part v possible tells = absurd tells
 
 -- ---- the end above an upward part, in the scope where that registers
 

@@ -41,11 +41,11 @@ use Rattle.ba_world_runs.proofs.WordLemmas.{one_over, word_above, word_in_root}
 -- ---- what is computed
 
 -- above an end is a participant that is enrolled
-abbrev enrolled_above_end : PState → CState → Bool
-enrolled_above_end p s = only_if (state_fits_above (Some p) s) (λ x. not (has_no_coordinator p)) s
+abbrev enrolled_above_end : Option Verdict → PState → CState → Bool
+enrolled_above_end v p s = only_if (state_fits_above (Some p) v s) (λ x. not (has_no_coordinator p)) s
 
-ends_are_below_enrolled : list_all (λ p. list_all (enrolled_above_end p) ends) parts ≡ true
-ends_are_below_enrolled = refl
+ends_are_below_enrolled : (v : Option Verdict) → list_all (λ p. list_all (enrolled_above_end v p) ends) parts ≡ true
+ends_are_below_enrolled v = refl
 
 -- an end that has to close is ready
 abbrev ready_to_close : CState → Bool
@@ -67,11 +67,11 @@ pairs_are_ready : list_all (λ protocol. list_all (λ s. list_all (is_ready_pair
 pairs_are_ready = refl
 
 -- below it each end is ready
-abbrev is_ready_below : PState → CState → Bool
-is_ready_below p s = only_if (is_completed_part p && state_fits_above (Some p) s) is_below_completed s
+abbrev is_ready_below : Option Verdict → PState → CState → Bool
+is_ready_below v p s = only_if (is_completed_part p && state_fits_above (Some p) v s) is_below_completed s
 
-below_is_ready : list_all (λ p. list_all (is_ready_below p) ends) parts ≡ true
-below_is_ready = refl
+below_is_ready : (v : Option Verdict) → list_all (λ p. list_all (is_ready_below v p) ends) parts ≡ true
+below_is_ready v = refl
 
 -- ---- the end of a participant
 
@@ -112,9 +112,9 @@ module _ (w : Net) (sound : IsSound w) where
   end_above k j s t up e child among =
       let fit = end_fits_here w sound.addressed k s e child.child among in
       let below = state_below s up e child.has_upward fit in
-      let table = state_passes (enrolled_above_end up.state) (part_passes (λ p. list_all (enrolled_above_end p) ends)
-      ends_are_below_enrolled up.state) e.state in
-      let enrolled = where_asked (state_fits_above (Some up.state) e.state) (λ _. not (has_no_coordinator up.state)) e.state table below in
+      let table = state_passes (enrolled_above_end e.verdict up.state) (part_passes (λ p. list_all (enrolled_above_end e.verdict p) ends)
+      (ends_are_below_enrolled e.verdict) up.state) e.state in
+      let enrolled = where_asked (state_fits_above (Some up.state) e.verdict e.state) (λ _. not (has_no_coordinator up.state)) e.state table below in
       let has : PartAt w k up = inr (s, child.child, child.has_upward) in
       let hears = not_is (has_no_coordinator up.state) enrolled in
       let kept = keeps_coordinator up (part_fits_above k s up child.child child.has_upward) hears in
@@ -215,6 +215,7 @@ module _ (w : Net) (sound : IsSound w) where
       let completed = where_asked (is_below_completed over.state && not (is_exited_state over.state)
       && part_among (partners up.protocol over.state) up.state) is_completed_part up.state table asked in
       let below = state_below s up e child.has_upward (end_fits_here w sound.addressed k s e child.child among) in
-      where_asked (is_completed_part up.state && state_fits_above (Some up.state) e.state) is_below_completed e.state
-      (state_passes (is_ready_below up.state) (part_passes (λ p. list_all (is_ready_below p) ends) below_is_ready up.state) e.state)
-      (and_from (is_completed_part up.state) (state_fits_above (Some up.state) e.state) completed below)
+      where_asked (is_completed_part up.state && state_fits_above (Some up.state) e.verdict e.state) is_below_completed e.state
+      (state_passes (is_ready_below e.verdict up.state) (part_passes (λ p. list_all (is_ready_below e.verdict p) ends)
+      (below_is_ready e.verdict) up.state) e.state)
+      (and_from (is_completed_part up.state) (state_fits_above (Some up.state) e.verdict e.state) completed below)

@@ -9,14 +9,15 @@ use Rattle.ba_record.specs.Coding.{InRange}
 use Rattle.ba_record.specs.declared.records.Record.TheVariants as journal
 use Rattle.ba_scope.specs.Scope.{ScopeState}
 use Rattle.ba_scope_ends.specs.declared.ends.End.{End}
+use Rattle.ba_node_steps.specs.Lawful.{first_records}
 use Rattle.ba_node_steps.specs.Node.{Among, new_node}
 use Rattle.ba_world_runs.specs.World.{ScopeAt, World, WorldNode, is_up, net_of}
 use Rattle.ba_world_runs.specs.WorldSteps.{WorldStep}
 
--- a node that has no object, and keeps its own record
+-- a node that has no object, and keeps a new node's records
 abbrev pub node_at_start : ℕ → List ℕ → WorldNode
 node_at_start number base =
-    record { state = new_node number base; records = journal.Node number base ∷ []; pending = None; mode = is_up }
+    record { state = new_node number base; records = first_records number base; pending = None; mode = is_up }
 
 -- a world without objects; the record of each node whose number has 32 bits is in range
 pub record IsFirstWorld (w : World) : Type 0 where

@@ -17,12 +17,13 @@ pub data Mail : Type 0 where
   answer : Id → Message → Mail
 
 -- What happens at a node, at a moment: an input of the node's own, a message that is delivered there and the input to
--- which it leads, a tick of the object with this identifier. A moment is any number: past the greatest u64 each
--- deadline is past, as at it.
+-- which it leads, a tick of the object with this identifier; or the format of its journal is set. A moment is any number:
+-- past the greatest u64 each deadline is past, as at it.
 pub data Occasion : Type 0 where
   own : ℕ → Input → Occasion
   delivers : ℕ → Mail → Input → Occasion
   ticks : ℕ → Id → Occasion
+  formats : Occasion
 
 -- the node works; its disk has failed; its machine has stopped
 pub data Mode : Type 0 where

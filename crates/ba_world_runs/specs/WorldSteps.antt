@@ -10,6 +10,7 @@ use Rattle.ba_record.specs.declared.records.Record.{Record}
 use Rattle.ba_scope.specs.Scope.{ScopeState}
 use Rattle.ba_node_steps.specs.Addresses.{coordinator_of, message_number, participant_of, register_code, registration_of}
 use Rattle.ba_node_steps.specs.Fits.{HasSpareCounters}
+use Rattle.ba_node_steps.specs.Lawful.{change, formatted}
 use Rattle.ba_node_steps.specs.Node.{Among, IsHere, NodeState}
 use Rattle.ba_node_steps.specs.Steps.{node_step}
 use Rattle.ba_node_steps.specs.Ticks.{tick_step}
@@ -18,7 +19,7 @@ use Rattle.ba_node_steps.specs.declared.answers.Reply.TheVariants as reply
 use Rattle.ba_node_steps.specs.declared.inputs.Input.{Input}
 use Rattle.ba_node_steps.specs.declared.inputs.Input.TheVariants as input
 use Rattle.ba_world_runs.specs.World.{Mail, Mode, Net, Occasion, ScopeAt, World, answer, delivers, is_closed, is_down, is_up, letter, net_of, own}
-use Rattle.ba_world_runs.specs.World.{registration_at, node_at, ticks}
+use Rattle.ba_world_runs.specs.World.{formats, registration_at, node_at, ticks}
 
 -- ---- what may happen at a node
 
@@ -62,6 +63,7 @@ abbrev pub IsPossible : Net → ℕ → Occasion → Type 0
 IsPossible w k (own now i) = IsOwn w i
 IsPossible w k (delivers now mail i) = Among w.bag mail × BringsInput (node_at w k) mail i
 IsPossible w k (ticks now id) = Unit {0}
+IsPossible w k formats = Unit {0}
 
 -- ---- what comes of it
 
@@ -85,6 +87,7 @@ effect n (delivers now mail i) =
 effect n (ticks now id) =
     let step = tick_step n now id in
     record { after = step.after; written = step.written; sends = option_map letter step.letter }
+effect n formats = let set = change n formatted in record { after = set.after; written = set.written; sends = None }
 
 -- ---- steps
 

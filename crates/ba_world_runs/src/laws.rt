@@ -117,17 +117,24 @@ pub fn trees_stay_fit()
 pub fn words_come_down()
     ensures root { (w : Net) → IsSound w → (k : ℕ) (s : ScopeState) (e : End) (v : Verdict) → ScopeAt w k s → s.up ≡ None
         → Among s.ends e → HasWord w e.id.0 v ↔ (e.verdict ≡ Some v) }
-    ensures child { (w : Net) → IsSound w → (l j : ℕ) (c r : ScopeState) (upward : Part) (over : End) → IsChild w l c upward j r
-        → HasEnd w l upward r over → (k : ℕ) (s : ScopeState) → IsUnder w l c k s → (e : End) (v : Verdict) → Among s.ends e
-        → HasWord w e.id.0 v ↔ HasWord w over.id.0 v }
+    ensures atomic_child { (w : Net) → IsSound w → (l j : ℕ) (c r : ScopeState) (upward : Part) (over : End)
+        → IsChild w l c upward j r → HasEnd w l upward r over → c.kind ≡ Kind.Atomic → (k : ℕ) (s : ScopeState) → IsUnder w l c k s
+        → (e : End) (v : Verdict) → Among s.ends e → HasWord w e.id.0 v ↔ HasWord w over.id.0 v }
+    ensures mixed_child { (w : Net) → IsSound w → (l j : ℕ) (c r : ScopeState) (upward : Part) (over : End)
+        → IsChild w l c upward j r → HasEnd w l upward r over → c.kind ≡ Kind.Mixed → (k : ℕ) (s : ScopeState) → IsUnder w l c k s
+        → (e : End) (v : Verdict) → Among s.ends e → HasWord w e.id.0 v ↔ HasWord w over.id.0 v }
     ensures one { (w : Net) → IsSound w → (id : ℕ) (v u : Verdict) → HasWord w id v → HasWord w id u → u ≡ v }
     ensures verdict { (w : Net) → IsSound w → (k : ℕ) (s : ScopeState) (e : End) (v : Verdict) → ScopeAt w k s → Among s.ends e
         → e.verdict ≡ Some v → HasWord w e.id.0 v }
     ensures root_in_run { (w : World) (before : List World) → IsRun (w ∷ before) → (k : ℕ) (s : ScopeState) (e : End) (v : Verdict)
         → ScopeAt (net_of w) k s → s.up ≡ None → Among s.ends e → HasWord (net_of w) e.id.0 v ↔ (e.verdict ≡ Some v) }
-    ensures child_in_run { (w : World) (before : List World) → IsRun (w ∷ before) → (l j : ℕ) (c r : ScopeState) (upward : Part)
-        (over : End) → IsChild (net_of w) l c upward j r → HasEnd (net_of w) l upward r over → (k : ℕ) (s : ScopeState)
-        → IsUnder (net_of w) l c k s → (e : End) (v : Verdict) → Among s.ends e
+    ensures atomic_child_in_run { (w : World) (before : List World) → IsRun (w ∷ before) → (l j : ℕ) (c r : ScopeState)
+        (upward : Part) (over : End) → IsChild (net_of w) l c upward j r → HasEnd (net_of w) l upward r over → c.kind ≡ Kind.Atomic
+        → (k : ℕ) (s : ScopeState) → IsUnder (net_of w) l c k s → (e : End) (v : Verdict) → Among s.ends e
+        → HasWord (net_of w) e.id.0 v ↔ HasWord (net_of w) over.id.0 v }
+    ensures mixed_child_in_run { (w : World) (before : List World) → IsRun (w ∷ before) → (l j : ℕ) (c r : ScopeState)
+        (upward : Part) (over : End) → IsChild (net_of w) l c upward j r → HasEnd (net_of w) l upward r over → c.kind ≡ Kind.Mixed
+        → (k : ℕ) (s : ScopeState) → IsUnder (net_of w) l c k s → (e : End) (v : Verdict) → Among s.ends e
         → HasWord (net_of w) e.id.0 v ↔ HasWord (net_of w) over.id.0 v }
     ensures one_in_run { (w : World) (before : List World) → IsRun (w ∷ before) → (id : ℕ) (v u : Verdict) → HasWord (net_of w) id v
         → HasWord (net_of w) id u → u ≡ v }

@@ -7,8 +7,11 @@ use Rattle.ba_world_runs.proofs.laws.words_come_down.Goals as goal
 pub returns-clause-root : goal.returns-clause-root
 returns-clause-root c = in_root
 
-pub returns-clause-child : goal.returns-clause-child
-returns-clause-child c = under_child
+pub returns-clause-atomic_child : goal.returns-clause-atomic_child
+returns-clause-atomic_child c w sound l j child r up over is its kind = under_child w sound l j child r up over is its
+
+pub returns-clause-mixed_child : goal.returns-clause-mixed_child
+returns-clause-mixed_child c w sound l j child r up over is its kind = under_child w sound l j child r up over is its
 
 pub returns-clause-one : goal.returns-clause-one
 returns-clause-one c = one_word
@@ -19,8 +22,13 @@ returns-clause-verdict c = has_word
 pub returns-clause-root_in_run : goal.returns-clause-root_in_run
 returns-clause-root_in_run c w before run = in_root (net_of w) (sound_run w before run).net
 
-pub returns-clause-child_in_run : goal.returns-clause-child_in_run
-returns-clause-child_in_run c w before run = under_child (net_of w) (sound_run w before run).net
+pub returns-clause-atomic_child_in_run : goal.returns-clause-atomic_child_in_run
+returns-clause-atomic_child_in_run c w before run l j child r up over is its kind =
+    under_child (net_of w) (sound_run w before run).net l j child r up over is its
+
+pub returns-clause-mixed_child_in_run : goal.returns-clause-mixed_child_in_run
+returns-clause-mixed_child_in_run c w before run l j child r up over is its kind =
+    under_child (net_of w) (sound_run w before run).net l j child r up over is its
 
 pub returns-clause-one_in_run : goal.returns-clause-one_in_run
 returns-clause-one_in_run c w before run = one_word (net_of w) (sound_run w before run).net
