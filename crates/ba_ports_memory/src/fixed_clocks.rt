@@ -1,40 +1,27 @@
 //! A clock that stands still.
 ghost use Rattle.std.specs.Prelude.{◌≡◌};
 
-use ba_ports::Clock;
-use std::marker::Model;
+use ba_ports::{Clock, Moment};
 
 /// A clock that gives one moment alone.
 #[derive(Clone, Copy, Debug)]
 pub struct FixedClock {
-    moment: u64,
-}
-
-impl Model for FixedClock {
-    ghost use Rattle.std.specs.Prelude.{ℕ, ◌^◌, ◌<◌};
-
-    ghost Value = { ℕ };
-
-    ghost view = { λ clock. clock.moment };
-
-    ghost invariant = { λ clock. clock.moment < 2 ^ 64 };
-
-    ghost inverse = { λ moment. record { moment = moment } };
+    moment: Moment,
 }
 
 impl FixedClock {
     /// A clock that gives this moment.
-    pub fn of(now: u64) -> FixedClock
-        ensures { result ≡ now }
+    pub fn of(now: Moment) -> FixedClock
+        ensures { result.moment ≡ now }
     {
         FixedClock { moment: now }
     }
 }
 
 impl Clock for FixedClock {
-    ghost gives = { λ clock moment. moment ≡ clock };
+    ghost gives = { λ clock moment. moment ≡ clock.moment };
 
-    fn now(&self) -> u64 {
+    fn now(&self) -> Moment {
         self.moment
     }
 

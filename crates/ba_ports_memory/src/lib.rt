@@ -12,6 +12,7 @@ mod outs;
 mod script_links;
 mod texts;
 
+pub use calls::Calls;
 pub use fixed_clocks::FixedClock;
 pub use mem_disks::MemDisk;
 pub use outs::Out;
