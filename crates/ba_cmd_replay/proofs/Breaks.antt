@@ -1,6 +1,6 @@
 -- How a play goes on with its next event, and how it breaks off there: for `play_pair`, clauses `written` and `broken`.
 use Rattle.std.proofs.Common.{◌≡◌, ℕ, List, [], ◌∷◌, ◌++◌, Option, Some, None, refl, sym, ap, ◌∙◌, subst, inl, inr, ◌+◌, ◌<◌, ◌≤◌, length}
-use Rattle.std.proofs.Common.{take, drop, get_or, append-nil, append_assoc, add-one, drop-cons}
+use Rattle.std.proofs.Common.{take, drop, get_or, append-nil, append_assoc, add-one, drop-cons, Result, Ok, Err}
 use Rattle.std.proofs.KnownBytes.{Appends-trans, Appends-nil}
 use Rattle.std.proofs.lemmas.List.{drop_all}
 use Rattle.std.specs.Io.KnownBytes.{Appends, Keeps}
@@ -14,6 +14,10 @@ use Rattle.ba_cmd_replay.specs.Replay.{WritesFirstLines}
 use Rattle.ba_cmd_replay.specs.declared.plays.PlayFault.{PlayFault}
 use Rattle.ba_cmd_replay.specs.declared.plays.PlayFault.TheVariants as played
 use Rattle.ba_cmd_replay.specs.inside.Plays.{BreaksOff, BreaksOffAt, GoesOutOrStays, effect_text}
+
+-- what was played isn't the fault of a write
+pub no_write_fault : {T : Type 0} (x : T) → ◌≡◌ {A = Result T PlayFault} (Ok x) (Err played.Write) → ⊥
+no_write_fault x is = cc
 
 -- known bytes that nothing touched
 pub keeps_same : (w : Option (List ℕ)) → Keeps w w

@@ -48,6 +48,7 @@ pub fn play_pair<K: Sink>(
     ensures broken { IfErr result (BreaksOff (play (starting_pair protocol) events.now) (K.written sink.old) (K.written sink.new)) }
     ensures cause { (result ≡ Err PlayFault.Write) → Rose (K.faults sink.old) (K.faults sink.new) ⊎ IsTrue (K.took_nothing sink.new) }
     ensures later { K.faults sink.old ≤ K.faults sink.new }
+    ensures stayed { (result ≡ Err PlayFault.Write → ⊥) → K.faults sink.new ≡ K.faults sink.old }
 {
     let Ok(mut pair) = Pair::make(alloc, protocol) else {
         return Err(PlayFault::Memory);
@@ -79,6 +80,7 @@ fn play_event<K: Sink>(
     ensures broken { IfErr result (BreaksOffAt number (happens pair.old event.now) text.old (K.written sink.old) (K.written sink.new)) }
     ensures cause { (result ≡ Err PlayFault.Write) → Rose (K.faults sink.old) (K.faults sink.new) ⊎ IsTrue (K.took_nothing sink.new) }
     ensures later { K.faults sink.old ≤ K.faults sink.new }
+    ensures stayed { (result ≡ Err PlayFault.Write → ⊥) → K.faults sink.new ≡ K.faults sink.old }
 {
     match pair.step(event) {
         Ok(line) => {
@@ -106,6 +108,7 @@ pub fn write_full<K: Sink>(text: &mut Octets, sink: &mut K) -> Result<(), NotWri
     ensures part { OnErr result (WritesPart (K.written sink.old) (K.written sink.new) text.old) }
     ensures cause { OnErr result (Rose (K.faults sink.old) (K.faults sink.new) ⊎ IsTrue (K.took_nothing sink.new)) }
     ensures later { K.faults sink.old ≤ K.faults sink.new }
+    ensures stayed { OnOk result (K.faults sink.new ≡ K.faults sink.old) }
 {
     if text.len() < FULL {
         return Ok(());

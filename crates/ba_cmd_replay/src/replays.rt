@@ -39,12 +39,14 @@ pub fn replay<S: Source, K: Sink>(
     ensures none { IfErr result (λ fault. is_halt fault ≡ false → disks.new ≡ []) }
     ensures handed { IfErr result (λ fault. IfSome (S.left source.old) (λ input. HandsOut input disks.new fault)) }
 
-    // A read fails only where the source counts a fault, and nothing is written then.
+    // A read fails only where the source counts a fault, nothing is written then, and the count rises at no other answer.
     ensures read { (result ≡ Err ReplayFault.Read) → Rose (S.faults source.old) (S.faults source.new) }
     ensures unwritten { (result ≡ Err ReplayFault.Read) → Keeps (K.written sink.old) (K.written sink.new) }
+    ensures source_stayed { (result ≡ Err ReplayFault.Read → ⊥) → S.faults source.new ≡ S.faults source.old }
 
-    // A write fails only where the sink counts a fault, or takes nothing of what isn't empty.
+    // A write fails only where the sink counts a fault, or takes nothing of what isn't empty; likewise.
     ensures write { (result ≡ Err ReplayFault.Write) → Rose (K.faults sink.old) (K.faults sink.new) ⊎ IsTrue (K.took_nothing sink.new) }
+    ensures sink_stayed { (result ≡ Err ReplayFault.Write → ⊥) → K.faults sink.new ≡ K.faults sink.old }
 
     // However long the input is, so much of it is taken at most.
     ensures bounded { TakesAtMost (S.left source.old) (S.left source.new) most_of_script }

@@ -36,6 +36,7 @@ pub fn play_world<K: Sink>(
     ensures handed { IfErr result (IsHandedOut (story nodes events.now).last disks.old disks.new) }
     ensures cause { (result ≡ Err PlayFault.Write) → Rose (K.faults sink.old) (K.faults sink.new) ⊎ IsTrue (K.took_nothing sink.new) }
     ensures later { K.faults sink.old ≤ K.faults sink.new }
+    ensures stayed { (result ≡ Err PlayFault.Write → ⊥) → K.faults sink.new ≡ K.faults sink.old }
 {
     let mut text = Octets::new(alloc);
     let Played { world, halt } = match play_events(alloc, nodes, events, &mut text, sink) {
@@ -84,6 +85,7 @@ fn play_events<K: Sink>(
     ensures shown { AreLinesShown (text.old ∷ map event_line (story nodes events.now).lines) (K.written sink.old) (K.written sink.new) text.new result }
     ensures cause { (result ≡ Err PlayFault.Write) → Rose (K.faults sink.old) (K.faults sink.new) ⊎ IsTrue (K.took_nothing sink.new) }
     ensures later { K.faults sink.old ≤ K.faults sink.new }
+    ensures stayed { (result ≡ Err PlayFault.Write → ⊥) → K.faults sink.new ≡ K.faults sink.old }
 {
     let Ok(mut world) = World::make(alloc, nodes) else {
         return Err(PlayFault::Memory);
@@ -127,6 +129,7 @@ fn write_end<K: Sink>(
         → AreLinesWritten (text.old ∷ ending_lines p (halt_told halt)) (K.written sink.old) (K.written sink.new) result }
     ensures cause { (result ≡ Err PlayFault.Write) → Rose (K.faults sink.old) (K.faults sink.new) ⊎ IsTrue (K.took_nothing sink.new) }
     ensures later { K.faults sink.old ≤ K.faults sink.new }
+    ensures stayed { (result ≡ Err PlayFault.Write → ⊥) → K.faults sink.new ≡ K.faults sink.old }
 {
     match halt {
         None => match show_ending(alloc, nodes, world, text, sink) {
@@ -149,6 +152,7 @@ fn show_ending<K: Sink>(
         → AreLinesShown (text.old ∷ map summary_line (summaries p)) (K.written sink.old) (K.written sink.new) text.new result }
     ensures cause { (result ≡ Err PlayFault.Write) → Rose (K.faults sink.old) (K.faults sink.new) ⊎ IsTrue (K.took_nothing sink.new) }
     ensures later { K.faults sink.old ≤ K.faults sink.new }
+    ensures stayed { (result ≡ Err PlayFault.Write → ⊥) → K.faults sink.new ≡ K.faults sink.old }
 {
     'nodes: for index in 0..nodes {
         if let Err(fault) = show_node(alloc, index + 1, world, text, sink) {
@@ -170,6 +174,7 @@ fn show_node<K: Sink>(
         → AreLinesShown (text.old ∷ map summary_line (node_summaries p.world node)) (K.written sink.old) (K.written sink.new) text.new result }
     ensures cause { (result ≡ Err PlayFault.Write) → Rose (K.faults sink.old) (K.faults sink.new) ⊎ IsTrue (K.took_nothing sink.new) }
     ensures later { K.faults sink.old ≤ K.faults sink.new }
+    ensures stayed { (result ≡ Err PlayFault.Write → ⊥) → K.faults sink.new ≡ K.faults sink.old }
 {
     if !world.up(node) {
         return show_line(alloc, &Summary::NodeDown(node), text, sink);
@@ -189,6 +194,7 @@ fn show_objects<K: Sink>(
         → AreLinesShown (text.old ∷ map summary_line (object_summaries (p.world.nodes node).state)) (K.written sink.old) (K.written sink.new) text.new result }
     ensures cause { (result ≡ Err PlayFault.Write) → Rose (K.faults sink.old) (K.faults sink.new) ⊎ IsTrue (K.took_nothing sink.new) }
     ensures later { K.faults sink.old ≤ K.faults sink.new }
+    ensures stayed { (result ≡ Err PlayFault.Write → ⊥) → K.faults sink.new ≡ K.faults sink.old }
 {
     'counters: for index in 0..world.last(node) {
         if let Err(fault) = show_object(alloc, Id::of(node, index + 1), world, text, sink) {
@@ -210,6 +216,7 @@ fn show_object<K: Sink>(
         → AreLinesShown (text.old ∷ object_lines id (seen_in p id)) (K.written sink.old) (K.written sink.new) text.new result }
     ensures cause { (result ≡ Err PlayFault.Write) → Rose (K.faults sink.old) (K.faults sink.new) ⊎ IsTrue (K.took_nothing sink.new) }
     ensures later { K.faults sink.old ≤ K.faults sink.new }
+    ensures stayed { (result ≡ Err PlayFault.Write → ⊥) → K.faults sink.new ≡ K.faults sink.old }
 {
     match world.seen(id) {
         Some(seen) => show_line(alloc, &object_summary(id, seen), text, sink),
@@ -240,6 +247,7 @@ fn show_event<K: Sink>(
     ensures shown { AreLinesShown (text.old ∷ outcome_line number outcome.now ∷ []) (K.written sink.old) (K.written sink.new) text.new result }
     ensures cause { (result ≡ Err PlayFault.Write) → Rose (K.faults sink.old) (K.faults sink.new) ⊎ IsTrue (K.took_nothing sink.new) }
     ensures later { K.faults sink.old ≤ K.faults sink.new }
+    ensures stayed { (result ≡ Err PlayFault.Write → ⊥) → K.faults sink.new ≡ K.faults sink.old }
 {
     match show_outcome(alloc, number, outcome, text) {
         Ok(()) => let_out(text, sink),
@@ -257,6 +265,7 @@ fn show_line<K: Sink>(
     ensures shown { AreLinesShown (text.old ∷ summary_line summary.now ∷ []) (K.written sink.old) (K.written sink.new) text.new result }
     ensures cause { (result ≡ Err PlayFault.Write) → Rose (K.faults sink.old) (K.faults sink.new) ⊎ IsTrue (K.took_nothing sink.new) }
     ensures later { K.faults sink.old ≤ K.faults sink.new }
+    ensures stayed { (result ≡ Err PlayFault.Write → ⊥) → K.faults sink.new ≡ K.faults sink.old }
 {
     match show_summary(alloc, summary, text) {
         Ok(()) => let_out(text, sink),
@@ -270,6 +279,7 @@ fn let_out<K: Sink>(text: &mut Octets, sink: &mut K) -> Result<(), PlayFault>
     ensures broken { IfErr result (λ why. (why ≡ PlayFault.Write) × WritesPart (K.written sink.old) (K.written sink.new) text.old) }
     ensures cause { (result ≡ Err PlayFault.Write) → Rose (K.faults sink.old) (K.faults sink.new) ⊎ IsTrue (K.took_nothing sink.new) }
     ensures later { K.faults sink.old ≤ K.faults sink.new }
+    ensures stayed { (result ≡ Err PlayFault.Write → ⊥) → K.faults sink.new ≡ K.faults sink.old }
 {
     match write_full(text, sink) {
         Ok(()) => Ok(()),
@@ -283,6 +293,7 @@ fn write_rest<K: Sink>(text: &Octets, sink: &mut K) -> Result<(), PlayFault>
     ensures broken { IfErr result (λ why. (why ≡ PlayFault.Write) × WritesPart (K.written sink.old) (K.written sink.new) text.now) }
     ensures cause { (result ≡ Err PlayFault.Write) → Rose (K.faults sink.old) (K.faults sink.new) ⊎ IsTrue (K.took_nothing sink.new) }
     ensures later { K.faults sink.old ≤ K.faults sink.new }
+    ensures stayed { (result ≡ Err PlayFault.Write → ⊥) → K.faults sink.new ≡ K.faults sink.old }
 {
     match write_all(sink, text.as_slice()) {
         Ok(()) => Ok(()),

@@ -1,10 +1,10 @@
-use Rattle.std.proofs.Common.{◌+◌, subst, arith, rules, drop, get_or}
+use Rattle.std.proofs.Common.{◌+◌, refl, subst, rules, drop, get_or, ◌∙◌}
 use Rattle.std.proofs.KnownBytes.{Appends-nil}
 use Rattle.ba_core.specs.declared.notices.Act.TheVariants as act
 use Rattle.ba_pair.specs.PairPlay.{Numbered, happens, play}
 use Rattle.ba_pair.specs.PairState.{starting_pair}
 use Rattle.ba_pair.specs.declared.events.PairEvent.TheVariants as event
-use Rattle.ba_cmd_replay.proofs.Breaks.{SoFar, plays_on, breaks_off, breaks_at_end, ends_whole, none_so_far, play_at, play_past}
+use Rattle.ba_cmd_replay.proofs.Breaks.{SoFar, plays_on, breaks_off, breaks_at_end, ends_whole, no_write_fault, none_so_far, play_at, play_past}
 use Rattle.ba_cmd_replay.proofs.plays.play_pair.Goals as goal
 
 pub returns-in_default-clause-broken : goal.returns-in_default-clause-broken
@@ -27,7 +27,7 @@ returns-in-Err-clause-broken g c =
 pub events-init : goal.events-init
 events-init g c = record {
   so_far = none_so_far _ _ _ _ (search rules) (search rules);
-  later = omega arith;
+  stayed = refl;
 }
 
 pub events-preserved : goal.events-preserved
@@ -45,7 +45,7 @@ events-preserved g c =
           played.0 c.events.text c.play_event.new.text before now (g.K.Sink.written c.play_event.new.sink)
           (subst (SoFar whole before now c.events.text) (play_at c.events.pair events at none c.events-test.true) c.events.invariant.so_far)
           played.1 played.2;
-      later = omega (arith, c.in_default-play_event.ensures.later);
+      stayed = c.in_default-play_event.ensures.stayed (no_write_fault _) ∙ c.events.invariant.stayed;
     }
 
 pub returns-in-Ok-write_all-clause-written : goal.returns-in-Ok-write_all-clause-written

@@ -1,9 +1,10 @@
-use Rattle.std.proofs.Common.{◌+◌, ◌++◌, ◌∷◌, [], ℕ, List, Err, None, arith, subst, sym, map, drop, get_or}
+use Rattle.std.proofs.Common.{◌+◌, ◌++◌, ◌∷◌, [], ℕ, List, Err, None, refl, subst, sym, map, drop, get_or, ◌∙◌}
 use Rattle.std.proofs.lemmas.List.{drop_all}
 use Rattle.ba_core.specs.declared.protocols.Kind.TheVariants.{Atomic}
 use Rattle.ba_world_events.specs.Events.{NumberedEvent}
 use Rattle.ba_world_events.specs.declared.events.Event.TheVariants as event
 use Rattle.ba_world_play.specs.Shows.{event_line, story, story_from}
+use Rattle.ba_cmd_replay.proofs.Breaks.{no_write_fault}
 use Rattle.ba_cmd_replay.proofs.Shown.{broken_at, held_start, shown_more}
 use Rattle.ba_cmd_replay.proofs.Stories.{PlayedTo, all_played, all_shown, events_at, left_led, left_shown, none_played, plays_on}
 use Rattle.ba_cmd_replay.specs.declared.world_plays.Played.{Played}
@@ -19,7 +20,7 @@ events-init g c = record {
   lines = [];
   played = none_played c.in-Ok.world c.args.nodes c.args.events.now c.in-Ok.ensures;
   shown = held_start (g.K.Sink.written c.args.sink.now) c.args.text.now;
-  later = omega arith;
+  stayed = refl;
 }
 
 pub returns-in-Err-show_event-clause-shown : goal.returns-in-Err-show_event-clause-shown
@@ -61,7 +62,7 @@ events-preserved g c =
       shown = shown_more (c.args.text.now ∷ lines) (line ∷ []) (g.K.Sink.written c.args.sink.now) (g.K.Sink.written c.events.sink)
           (g.K.Sink.written c.show_event.new.sink) c.events.text c.show_event.new.text c.events.invariant.shown
           c.in_default-show_event.ensures.shown;
-      later = omega (arith, c.events.invariant.later, c.in_default-show_event.ensures.later);
+      stayed = c.in_default-show_event.ensures.stayed (no_write_fault _) ∙ c.events.invariant.stayed;
     }
 
 pub returns-in-Err-clause-led : goal.returns-in-Err-clause-led

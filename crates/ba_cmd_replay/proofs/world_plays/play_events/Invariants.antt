@@ -1,4 +1,4 @@
-use Rattle.std.proofs.Common.{◌≤◌, ◌∷◌, List, ℕ, drop}
+use Rattle.std.proofs.Common.{◌≡◌, ◌∷◌, List, ℕ, drop}
 use Rattle.ba_world_play.specs.Shows.{story}
 use Rattle.ba_cmd_replay.proofs.Stories.{PlayedTo}
 use Rattle.ba_cmd_replay.specs.inside.WorldPlays.{HoldsRest}
@@ -9,5 +9,5 @@ invariant-events g l = record {
   lines : List (List ℕ);
   played : PlayedTo (story l.nodes l.events) l.world lines (drop l.number-index l.events);
   shown : HoldsRest (l.initial.text ∷ lines) (g.K.Sink.written l.initial.sink) (g.K.Sink.written l.sink) l.text;
-  later : g.K.Sink.faults l.initial.sink ≤ g.K.Sink.faults l.sink;
+  stayed : g.K.Sink.faults l.sink ≡ g.K.Sink.faults l.initial.sink;
 }

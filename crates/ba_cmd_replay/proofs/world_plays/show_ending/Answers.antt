@@ -1,7 +1,8 @@
-use Rattle.std.proofs.Common.{◌≡◌, ◌+◌, ◌≤◌, ◌∷◌, [], ℕ, List, Err, arith, subst, sym, map, length}
+use Rattle.std.proofs.Common.{◌≡◌, ◌+◌, ◌≤◌, ◌∷◌, [], ℕ, List, Err, arith, refl, subst, sym, map, length, ◌∙◌}
 use Rattle.ba_world_events.specs.Outcomes.{summary_line}
 use Rattle.ba_world_events.specs.declared.summaries.Summary.TheVariants as summary
 use Rattle.ba_world_play.specs.Shows.{node_summaries}
+use Rattle.ba_cmd_replay.proofs.Breaks.{no_write_fault}
 use Rattle.ba_cmd_replay.proofs.Endings.{after_node, all_lines, node_there, numbered, one_more}
 use Rattle.ba_cmd_replay.proofs.Shown.{broken_at, held_start, shown_more, shown_on}
 use Rattle.ba_cmd_replay.specs.inside.WorldPlays.{HoldsRest, AreLinesShown}
@@ -27,7 +28,7 @@ returns-in-Err-clause-shown g c p is count =
 pub nodes-init : goal.nodes-init
 nodes-init g c = record {
   shown = λ p is count. held_start (g.K.Sink.written c.args.sink.now) c.args.text.now;
-  later = omega arith;
+  stayed = refl;
 }
 
 pub nodes-preserved : goal.nodes-preserved
@@ -44,7 +45,7 @@ nodes-preserved g c = record {
       (shown_more (c.args.text.now ∷ numbered f at) (map summary_line (f (at + 1))) before now new c.nodes.text c.show_node.new.text
       (c.nodes.invariant.shown p is count)
       (c.in_default.ensures.shown p is (node_there p (at + 1) from to)));
-  later = omega (arith, c.nodes.invariant.later, c.in_default.ensures.later);
+  stayed = c.in_default.ensures.stayed (no_write_fault _) ∙ c.nodes.invariant.stayed;
 }
 
 pub returns-clause-shown : goal.returns-clause-shown

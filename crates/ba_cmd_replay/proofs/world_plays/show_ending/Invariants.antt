@@ -1,4 +1,4 @@
-use Rattle.std.proofs.Common.{◌≡◌, ◌≤◌, ◌∷◌}
+use Rattle.std.proofs.Common.{◌≡◌, ◌∷◌}
 use Rattle.ba_world_play.specs.Plays.{WorldOnDisks}
 use Rattle.ba_world_play.specs.Shows.{node_summaries}
 use Rattle.ba_world.specs.Worlds.{IsWorldOf}
@@ -11,5 +11,5 @@ invariant-nodes g l = record {
   shown : (p : WorldOnDisks) → IsWorldOf l.world p → p.count ≡ l.nodes
       → HoldsRest (l.initial.text ∷ numbered (node_summaries p.world) l.index) (g.K.Sink.written l.initial.sink) (g.K.Sink.written l.sink)
       l.text;
-  later : g.K.Sink.faults l.initial.sink ≤ g.K.Sink.faults l.sink;
+  stayed : g.K.Sink.faults l.sink ≡ g.K.Sink.faults l.initial.sink;
 }

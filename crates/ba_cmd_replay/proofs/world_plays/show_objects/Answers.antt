@@ -1,7 +1,8 @@
-use Rattle.std.proofs.Common.{◌≡◌, ◌+◌, ◌∷◌, ℕ, List, Err, arith, subst, sym, map}
+use Rattle.std.proofs.Common.{◌≡◌, ◌+◌, ◌∷◌, ℕ, List, Err, arith, refl, subst, sym, map, ◌∙◌}
 use Rattle.ba_world_events.specs.Outcomes.{summary_line}
 use Rattle.ba_world_play.specs.Shows.{summaries_at}
 use Rattle.ba_node_steps.specs.Node.{last}
+use Rattle.ba_cmd_replay.proofs.Breaks.{no_write_fault}
 use Rattle.ba_cmd_replay.proofs.Endings.{after_number, numbered, object_shown, one_more}
 use Rattle.ba_cmd_replay.proofs.Shown.{broken_at, held_start, shown_more}
 use Rattle.ba_cmd_replay.specs.inside.WorldPlays.{HoldsRest, AreLinesShown}
@@ -32,7 +33,7 @@ returns-in-Err-clause-shown g c p is up =
 pub counters-init : goal.counters-init
 counters-init g c = record {
   shown = λ p is up. held_start (g.K.Sink.written c.args.sink.now) c.args.text.now;
-  later = omega arith;
+  stayed = refl;
 }
 
 pub counters-preserved : goal.counters-preserved
@@ -49,7 +50,7 @@ counters-preserved g c = record {
       (c.counters.invariant.shown p is up)
       (subst (λ (ls : List (List ℕ)). HoldsRest (c.counters.text ∷ ls) now new c.show_object.new.text) same
       (c.in_default.ensures.shown p is)));
-  later = omega (arith, c.counters.invariant.later, c.in_default.ensures.later);
+  stayed = c.in_default.ensures.stayed (no_write_fault _) ∙ c.counters.invariant.stayed;
 }
 
 pub returns-clause-shown : goal.returns-clause-shown

@@ -1,4 +1,4 @@
-use Rattle.std.proofs.Common.{◌≡◌, ◌≤◌, true, ◌∷◌}
+use Rattle.std.proofs.Common.{◌≡◌, true, ◌∷◌}
 use Rattle.ba_world_play.specs.Plays.{WorldOnDisks}
 use Rattle.ba_world_play.specs.Shows.{summaries_at}
 use Rattle.ba_world.specs.Worlds.{IsWorldOf, is_node_up}
@@ -11,5 +11,5 @@ invariant-counters g l = record {
   shown : (p : WorldOnDisks) → IsWorldOf l.world p → is_node_up p l.node ≡ true
       → HoldsRest (l.initial.text ∷ numbered (summaries_at (p.world.nodes l.node).state) l.index) (g.K.Sink.written l.initial.sink)
       (g.K.Sink.written l.sink) l.text;
-  later : g.K.Sink.faults l.initial.sink ≤ g.K.Sink.faults l.sink;
+  stayed : g.K.Sink.faults l.sink ≡ g.K.Sink.faults l.initial.sink;
 }
