@@ -2,9 +2,10 @@
 use Rattle.std.proofs.Common.{◌≡◌, ◌≢◌, inl, ℕ, ◌+◌, ◌*◌, ◌<◌, ◌≤◌, ◌^◌, Bool, List, [], ◌∷◌, length, None, Some, Result, Ok, Err, IfOk}
 use Rattle.std.proofs.Common.{IsTrue, refl, sym, ap, subst, arith}
 use Rattle.std.specs.List.{AllByRecursion}
+use Rattle.ba_journal.proofs.Befores.{six_each}
 use Rattle.ba_journal.specs.Journals.{JournalValue}
+use Rattle.ba_journal.specs.Readings.{last_gate}
 use Rattle.ba_journal.specs.declared.journals.TheConstants.{GREATEST_LENGTH}
-use Rattle.ba_journal.specs.declared.loads.TheConstants.{FIRST_GATE}
 use Rattle.ba_node.specs.Loading.{RefusesLoad, begun}
 use Rattle.ba_node.specs.Nodes.{NodeHolds, on_journal}
 use Rattle.ba_node.specs.declared.faults.LoadFault.{LoadFault}
@@ -56,8 +57,8 @@ begun_none T gate number base records (fault.OtherNode number_other) other = ref
 begun_none T gate number base records fault.OtherBase other = refl
 begun_none T gate number base records (fault.BadHistory place) other = refl
 
-pub few_of : (records : List Record) (gate : ℕ) → FIRST_GATE + 6 * length records ≤ gate → gate < 2 ^ 64 → AreFew records
-few_of records gate paid small = omega (arith, paid, small)
+pub few_of : (records : List Record) (gate : ℕ) → gate ≡ last_gate records → gate < 2 ^ 64 → AreFew records
+few_of records gate end small = omega (arith, end, small, six_each records)
 
 pub begun_same : (number : ℕ) (base : List ℕ) (records : List Record) → records ≢ [] → begun number base records ≡ records
 begun_same number base [] some = absurd (some refl)
@@ -83,20 +84,20 @@ keeping_refuses number base records node_fault.Full = tt
 keeping_refuses number base records (node_fault.Closed count) = tt
 
 module _ {D : Type 0} (follows : D → Bool) (seen : D → List ℕ) where
-  -- a node whose records cost six bytes each
+  -- a node whose records stand before the gate
   pub holds_again : (number : ℕ) (base : List ℕ) (records : List Record) (j : JournalValue D) (n : NodeState)
       → IsReplay number base records n
-      → number < 2 ^ 32 → IsBase base → AllByRecursion InRange records → FIRST_GATE + 6 * length records ≤ j.gate → j.gate < 2 ^ 64
+      → number < 2 ^ 32 → IsBase base → AllByRecursion InRange records → j.gate ≡ last_gate records → j.gate < 2 ^ 64
       → (IsTrue (follows j.disk) → j.gate + 1 ≡ length (seen j.disk)) → NodeHolds follows seen (on_journal j n)
-  holds_again number base records j n replay small_number is_base ranges paid small place =
-      let few : AreFew records = few_of records j.gate paid small in
+  holds_again number base records j n replay small_number is_base ranges end small place =
+      let few : AreFew records = few_of records j.gate end small in
       let made : last n ≤ 2 * length records = replay_last records n ranges few replay.replays in
       record {
         fits = replay_fits records n ranges few replay.replays;
         reachable = replay.reachable;
         number = subst (λ (k : ℕ). k < 2 ^ 32) (sym replay.number_is) small_number;
         base = subst IsBase (sym replay.base_is) is_base;
-        counters = omega (arith, made, paid);
+        counters = omega (arith, made, end, six_each records);
         short = small;
         place = λ f opened. place f;
       }
@@ -146,6 +147,7 @@ module _ {D : Type 0} (follows : D → Bool) (seen : D → List ℕ) (may_leave 
         stays_open = kept.stays_open;
         place = kept.place;
         grows = (omega (arith, there), omega (arith, there, here));
+        end = λ end. omega (arith, there, end);
       }
 
   -- it wasn't
@@ -162,6 +164,7 @@ module _ {D : Type 0} (follows : D → Bool) (seen : D → List ℕ) (may_leave 
     stays_open = tt;
     place = tt;
     grows = tt;
+    end = tt;
   }
   begins_failed number base old new node_fault.Memory kept = record {
     settled = tt;
@@ -173,6 +176,7 @@ module _ {D : Type 0} (follows : D → Bool) (seen : D → List ℕ) (may_leave 
     stays_open = tt;
     place = tt;
     grows = tt;
+    end = tt;
   }
   begins_failed number base old new node_fault.Full kept = record {
     settled = tt;
@@ -184,6 +188,7 @@ module _ {D : Type 0} (follows : D → Bool) (seen : D → List ℕ) (may_leave 
     stays_open = tt;
     place = tt;
     grows = tt;
+    end = tt;
   }
   begins_failed number base old new (node_fault.Closed count) kept = absurd (kept.not_closed count refl)
 
@@ -203,6 +208,7 @@ module _ {D : Type 0} (follows : D → Bool) (seen : D → List ℕ) (may_leave 
     stays_open = tt;
     place = tt;
     grows = tt;
+    end = tt;
   }
 
   -- there are records, and they were replayed
@@ -225,6 +231,7 @@ module _ {D : Type 0} (follows : D → Bool) (seen : D → List ℕ) (may_leave 
     stays_open = opened;
     place = place;
     grows = (omega arith, small);
+    end = λ end. end;
   }
 
   -- the same with another value in its Ok
@@ -241,6 +248,7 @@ module _ {D : Type 0} (follows : D → Bool) (seen : D → List ℕ) (may_leave 
     stays_open = made.stays_open;
     place = made.place;
     grows = made.grows;
+    end = made.end;
   }
 
   pub begins_err : (T S : Type 0) (why : LoadFault) (number : ℕ) (base : List ℕ) (records : List Record) (old new : JournalValue D)
@@ -256,4 +264,5 @@ module _ {D : Type 0} (follows : D → Bool) (seen : D → List ℕ) (may_leave 
     stays_open = tt;
     place = tt;
     grows = tt;
+    end = tt;
   }

@@ -1,7 +1,9 @@
 pub mod Beginnings
 pub mod Commits
+pub mod Enacted
 pub mod Histories
 pub mod Moments
+pub mod OnCount
 pub mod Openings
 pub mod Openness
 pub mod OwnRecords

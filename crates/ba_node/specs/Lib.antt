@@ -1,6 +1,6 @@
 pub mod Answers
+pub mod Counts
 pub mod Keeping
 pub mod Loading
 pub mod Nodes
-pub mod Posting
 pub mod inside

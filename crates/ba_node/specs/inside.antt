@@ -1,4 +1,5 @@
 pub mod Beginnings
 pub mod Commits
+pub mod Enacting
 pub mod Kept
 pub mod Stored

@@ -1,7 +1,7 @@
 //! Begins a journal without records, or replays one.
-ghost use Rattle.std.specs.Prelude.{◌≡◌, ◌<◌, ◌≤◌, ◌+◌, ◌*◌, ◌^◌, [], None, length, IsTrue, IfOk, IfErr};
+ghost use Rattle.std.specs.Prelude.{◌≡◌, ◌<◌, ◌≤◌, ◌+◌, ◌^◌, [], None, length, IsTrue, IfOk, IfErr};
 ghost use Rattle.std.specs.List.{AllByRecursion};
-ghost use Rattle.ba_journal.specs.declared.loads.TheConstants.{FIRST_GATE};
+ghost use Rattle.ba_journal.specs.Readings.{last_gate};
 ghost use Rattle.ba_node.specs.Loading.{RefusesLoad, begun};
 ghost use Rattle.ba_node.specs.Nodes.{NodeHolds, on_journal};
 ghost use Rattle.ba_node.specs.inside.Beginnings.{Begins, IsReplay, begin_fault_of};
@@ -31,7 +31,8 @@ pub fn begin<D: Disk>(
     requires opened { journal.old.closed ≡ None }
     requires place { IsTrue (D.follows journal.old.disk) → journal.old.gate + 1 ≡ length (D.seen journal.old.disk) }
     requires in_range { AllByRecursion InRange records }
-    requires paid { (FIRST_GATE + 6 * length records ≤ journal.old.gate) × (journal.old.gate < 2 ^ 64) }
+    requires end { journal.old.gate ≡ last_gate records }
+    requires small { journal.old.gate < 2 ^ 64 }
     ensures replay { IfOk result (λ objects. IsReplay number base (begun number base records) objects.node) }
     ensures holds { IfOk result (λ objects. NodeHolds D.follows D.seen (on_journal journal.new objects.node)) }
     ensures refused { IfErr result (RefusesLoad number base records) }

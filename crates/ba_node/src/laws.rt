@@ -1,13 +1,21 @@
 //! Laws of nodes on their journals. Each function does nothing: its contract is the law.
-ghost use Rattle.std.specs.Prelude.{◌≡◌, ◌⊎◌, ℕ, List};
+ghost use Rattle.std.specs.Prelude.{◌≡◌, ◌⊎◌, ℕ, List, Result};
 ghost use Rattle.ba_journal.specs.Frames.{IsNoJournal, StandsFor};
+ghost use Rattle.ba_node.specs.Answers.{IsAnswered};
+ghost use Rattle.ba_node.specs.Counts.{on_count};
 ghost use Rattle.ba_node.specs.Keeping.{with_record};
 ghost use Rattle.ba_node.specs.Loading.{RefusesFile, RefusesLoad};
 ghost use Rattle.ba_node.specs.declared.faults.LoadFault.TheVariants as fault;
 ghost use Rattle.ba_node.specs.declared.faults.LoadFault.{LoadFault};
+ghost use Rattle.ba_node.specs.declared.faults.NodeFault.{NodeFault};
+ghost use Rattle.ba_node.specs.Nodes.{NodeOnJournal};
 ghost use Rattle.ba_record.specs.declared.records.Record.{Record};
-ghost use Rattle.ba_node_steps.specs.Lawful.{Event, Replays, change};
+ghost use Rattle.ba_node_steps.specs.Lawful.{Change, Event, Replays, change};
 ghost use Rattle.ba_node_steps.specs.Node.{NodeState};
+ghost use Rattle.ba_node_steps.specs.declared.answers.Done.{Done};
+ghost use Rattle.ba_node_steps.specs.declared.answers.Ticked.{Ticked};
+
+use ba_ports::Disk;
 
 /// The records of which a node is the replay are refused to that node for nothing but want of memory or a disk that failed.
 pub fn never_refused()
@@ -36,4 +44,15 @@ pub fn a_history_breaks_at_one_place()
 pub fn a_node_stays_the_replay_of_its_records()
     ensures { (records : List Record) (n : NodeState) (e : Event) → Replays records n
         → Replays (with_record records (change n e).written) (change n e).after }
+{}
+
+/// What a call answers over a disk, it answers also where of the disk only its count of failures is known: so it can be told
+/// without the disk.
+pub fn an_answer_stands_on_the_count<D: Disk>()
+    ensures calls { (due : Change) (old new : NodeOnJournal D) (result : Result Done NodeFault)
+        → IsAnswered D.faults due old new result
+        → IsAnswered (λ n. n) due (on_count D.faults old) (on_count D.faults new) result }
+    ensures ticks { (due : Change) (old new : NodeOnJournal D) (result : Result Ticked NodeFault)
+        → IsAnswered D.faults due old new result
+        → IsAnswered (λ n. n) due (on_count D.faults old) (on_count D.faults new) result }
 {}

@@ -3,6 +3,8 @@
 
 mod beginning;
 mod committing;
+mod enacting;
+mod events;
 mod faults;
 mod keeping;
 mod laws;
@@ -14,6 +16,6 @@ mod taking;
 pub use faults::{LoadFault, NodeFault};
 pub use laws::{
     a_file_tells_why_it_is_refused, a_history_breaks_at_one_place,
-    a_node_stays_the_replay_of_its_records, never_refused,
+    a_node_stays_the_replay_of_its_records, an_answer_stands_on_the_count, never_refused,
 };
 pub use nodes::Node;

@@ -3,7 +3,7 @@ ghost use Rattle.std.specs.Prelude.{◌≡◌, ◌≤◌, ℕ, List as Items, No
 ghost use Rattle.std.specs.List.{AllByRecursion};
 ghost use Rattle.ba_journal.specs.Frames.{StandsFor};
 ghost use Rattle.ba_journal.specs.Journals.{IsSettled};
-ghost use Rattle.ba_journal.specs.Readings.{ReadsAs};
+ghost use Rattle.ba_journal.specs.Readings.{ReadsAs, last_gate};
 ghost use Rattle.ba_node.specs.Loading.{MayBeginSince, Opened, RefusesFile, begun, disk_after_load, load_answer, load_fault_of};
 ghost use Rattle.ba_node.specs.declared.faults.LoadFault.TheVariants as fault;
 ghost use Rattle.ba_ports.specs.Causes.{Rose};
@@ -34,7 +34,8 @@ impl<D: Disk> Node<D> {
         requires is_base { IsBase base }
 
         // What is answered, whatever the disk.
-        ensures lawful { IfOk result (λ n. (records : Items Record) × AllByRecursion InRange records × Replays records n.node) }
+        ensures lawful { IfOk result (λ n. (records : Items Record) × AllByRecursion InRange records × Replays records n.node
+            × (n.end ≡ last_gate records)) }
         ensures is_this { IfOk result (λ n. (n.node.number ≡ number) × (n.node.base ≡ base)) }
         ensures opened { IfOk result (λ n. n.closed ≡ None) }
 

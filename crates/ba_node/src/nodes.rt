@@ -5,7 +5,6 @@ ghost use Rattle.ba_message.specs.Letters.{IsPostable};
 ghost use Rattle.ba_node.specs.Answers.{IsAnswered, IsLetterAtTick, IsReplyOf};
 ghost use Rattle.ba_node.specs.Keeping.{StandsWith, Stepped, with_record};
 ghost use Rattle.ba_node.specs.Nodes.{NodeHolds, on_journal};
-ghost use Rattle.ba_node.specs.Posting.{LeavesRoom};
 ghost use Rattle.ba_node.specs.declared.faults.NodeFault.TheVariants as fault;
 ghost use Rattle.ba_ports.specs.Causes.{Rose};
 ghost use Rattle.ba_ports.specs.Disk.{LeavesOnly, fail, stop, nothing};
@@ -16,6 +15,7 @@ ghost use Rattle.ba_node_steps.specs.Fits.{HasSpareCounters, NodeFits};
 ghost use Rattle.ba_node_steps.specs.Lawful.{change, given, ticked};
 ghost use Rattle.ba_node_steps.specs.Letters.{IsLetterOf};
 ghost use Rattle.ba_node_steps.specs.Node.{last};
+ghost use Rattle.ba_node_steps.specs.Replies.{HasFitTime, IsAnswerable};
 ghost use Rattle.ba_node_steps.specs.Shown.{deadline_of, in_scope, seen_at};
 ghost use Rattle.ba_node_steps.specs.Steps.{node_step};
 ghost use Rattle.ba_node_steps.specs.Ticks.{tick_step};
@@ -67,6 +67,7 @@ impl<D: Disk> Node<D> {
     pub fn handle(&mut self, now: u64, input: Input) -> Result<Done, NodeFault>
         requires { GivesFit (given now input) }
         ensures reply { IfOk result (IsReplyOf (node_step self.old.node now input)) }
+        ensures answerable { IfOk result (λ done. IsAnswerable done.reply) }
         ensures answered { IsAnswered D.faults (change self.old.node (given now input)) self.old self.new result }
 
         // What is said of content, over a disk that follows its model.
@@ -87,6 +88,7 @@ impl<D: Disk> Node<D> {
         if let Some(count) = self.journal.closed() {
             return Err(NodeFault::Closed(count));
         }
+        let _ = asked_time(&input);
         let Ok(plan) = plan(&mut self.objects, now, input) else {
             return Err(NodeFault::Memory);
         };
@@ -98,7 +100,7 @@ impl<D: Disk> Node<D> {
     pub fn tick(&mut self, now: u64, id: Id) -> Result<Ticked, NodeFault>
         ensures letter { IfOk result (IsLetterAtTick (tick_step self.old.node now id)) }
         ensures sendable { IfOk result (λ ticked. IfSome ticked.letter (IsLetterOf self.old.node id)) }
-        ensures postable { LeavesRoom self.old.node.base → IfOk result (λ ticked. IfSome ticked.letter IsPostable) }
+        ensures postable { IfOk result (λ ticked. IfSome ticked.letter IsPostable) }
         ensures answered { IsAnswered D.faults (change self.old.node (ticked now id)) self.old self.new result }
 
         // What is said of content, over a disk that follows its model.
@@ -182,6 +184,19 @@ impl<D: Disk> Node<D> {
     {
         let Node { journal, .. } = self;
         journal.into_disk()
+    }
+}
+
+// The time that is asked for a context, in milliseconds: a number of 32 bits, so that a message can say it.
+fn asked_time(input: &Input) -> Option<u32>
+    ensures { HasFitTime input.now }
+{
+    match input {
+        Input::Create {
+            expires: Some(milliseconds),
+            ..
+        } => Some(*milliseconds),
+        _ => None,
     }
 }
 

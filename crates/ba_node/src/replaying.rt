@@ -10,9 +10,9 @@ ghost use Rattle.ba_record.specs.declared.records.Record.{Record as Kept};
 ghost use Rattle.ba_node_steps.specs.Lawful.{AreFew};
 ghost use Rattle.ba_node_steps.specs.Node.{new_node};
 
+use crate::enacting::enact;
 use crate::faults::LoadFault;
 use ba_core::{List, Octets};
-use ba_enacting::enact;
 use ba_node_objects::Objects;
 use ba_record::Record;
 use std::alloc::Global;

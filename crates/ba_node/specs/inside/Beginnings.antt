@@ -2,6 +2,7 @@
 use Rattle.std.specs.Prelude.{◌≡◌, ◌⊎◌, ℕ, ◌+◌, ◌<◌, ◌≤◌, ◌^◌, Bool, true, false, List, [], length, None, Result, Ok, Err, IsTrue, OnOk}
 use Rattle.ba_journal.specs.Frames.{StandsFor}
 use Rattle.ba_journal.specs.Journals.{IsSettled, JournalValue}
+use Rattle.ba_journal.specs.Readings.{last_gate}
 use Rattle.ba_node.specs.Loading.{beginning, begun}
 use Rattle.ba_node.specs.declared.faults.LoadFault.{LoadFault}
 use Rattle.ba_node.specs.declared.faults.LoadFault.TheVariants as fault
@@ -50,3 +51,4 @@ pub record Begins {D T : Type 0} (follows : D → Bool) (seen : D → List ℕ) 
   pub stays_open : OnOk result (new.closed ≡ None)
   pub place : OnOk result (IsTrue (follows old.disk) → new.gate + 1 ≡ length (seen new.disk))
   pub grows : OnOk result ((old.gate ≤ new.gate) × (new.gate < 2 ^ 64))
+  pub end : OnOk result (old.gate ≡ last_gate records → new.gate ≡ last_gate (begun number base records))

@@ -31,7 +31,7 @@ pub replay-requires-clause-some : goal.replay-requires-clause-some
 replay-requires-clause-some g c = search rules
 
 pub replay-requires-clause-few : goal.replay-requires-clause-few
-replay-requires-clause-few g c = few_of c.args.records c.args.journal.now.gate c.requires.paid.0 c.requires.paid.1
+replay-requires-clause-few g c = few_of c.args.records c.args.journal.now.gate c.requires.end c.requires.small
 
 pub returns-else-is_empty-clause-replay : goal.returns-else-is_empty-clause-replay
 returns-else-is_empty-clause-replay g c =
@@ -47,7 +47,7 @@ returns-else-is_empty-clause-holds g c =
     let small : c.args.number < 2 ^ 32 = omega arith in
     at_ok c.replay.result (λ (o : NodeInMemory) replay. holds_again D.follows D.seen c.args.number c.args.base c.args.records j o.node
     replay small
-    c.requires.is_base c.requires.in_range c.requires.paid.0 c.requires.paid.1 c.requires.place) c.replay.ensures.ok
+    c.requires.is_base c.requires.in_range c.requires.end c.requires.small c.requires.place) c.replay.ensures.ok
 
 pub returns-else-is_empty-clause-begins : goal.returns-else-is_empty-clause-begins
 returns-else-is_empty-clause-begins g c =
@@ -57,5 +57,5 @@ returns-else-is_empty-clause-begins g c =
     let some : c.args.records ≢ [] = search rules in
     begins_again D.follows D.seen D.may_leave D.later D.left_between D.driven D.faults c.args.number c.args.base c.args.records j
     c.replay.result some
-    c.replay.ensures.no_disk c.requires.opened c.requires.paid.1 c.requires.place (laws.no_call j.disk) (laws.only_now j.disk)
+    c.replay.ensures.no_disk c.requires.opened c.requires.small c.requires.place (laws.no_call j.disk) (laws.only_now j.disk)
     (laws.driven_by_none j.disk)

@@ -1,6 +1,8 @@
-use Rattle.std.proofs.Common.{sym, ap, subst}
+use Rattle.std.proofs.Common.{IfOk, sym, ap, subst}
+use Rattle.ba_node.specs.Answers.{IsReplyOf}
 use Rattle.ba_node.specs.Nodes.{on_journal}
 use Rattle.ba_node_plans.specs.Plans.{planned_step}
+use Rattle.ba_node.proofs.Posting.{answerable}
 use Rattle.ba_node.specs.inside.Commits.{Commits, IsDue, due_by_step}
 use Rattle.ba_node_steps.specs.Lawful.{change, given}
 use Rattle.ba_node_steps.specs.Node.{NodeState}
@@ -40,3 +42,11 @@ returns-clause-durable g c = (commits_of g c).durable
 
 pub returns-clause-any_moment : goal.returns-clause-any_moment
 returns-clause-any_moment g c = (commits_of g c).any_moment
+
+pub returns-clause-answerable : goal.returns-clause-answerable
+returns-clause-answerable g c =
+    let n = c.self.inside.objects.node in
+    answerable n c.self.invariant.base c.args.now c.args.input c.asked_time.ensures c.take_step.result
+    (subst (λ (s : NodeStep). IfOk c.take_step.result (IsReplyOf s)) c.in-Ok.ensures.step
+    (subst (λ (k : NodeState). IfOk c.take_step.result (IsReplyOf (planned_step k c.in-Ok.plan))) c.plan.ensures.node
+    c.take_step.ensures.reply))

@@ -1,4 +1,4 @@
-use Rattle.std.proofs.Common.{◌<◌, ◌^◌, arith, List, ◌++◌, Err, IsTrue, subst, sym, ap}
+use Rattle.std.proofs.Common.{◌<◌, ◌^◌, arith, List, ◌++◌, Err, IsTrue, subst, sym, ap, ◌∙◌}
 use Rattle.ba_journal.specs.Journals.{JournalValue}
 use Rattle.ba_journal.specs.Loads.{IsOpenedAs, MayStandSince}
 use Rattle.ba_journal.specs.Readings.{ReadsAs}
@@ -120,4 +120,5 @@ returns-in-Ok-begin-clause-lawful g c =
       begun_in_range c.args.number c.args.base c.in-Ok.records c.requires.from_one small c.requires.is_base c.in-Ok.ensures.in_range,
       subst (λ (n : NodeState). Replays (begun c.args.number c.args.base c.in-Ok.records) n)
           (sym (ap (λ v. v.node) c.of.ensures)) c.in-Ok-begin.ensures.replay.replays,
+      ap (λ v. v.end) c.of.ensures ∙ c.in-Ok-begin.ensures.begins.end c.in-Ok.ensures.end,
     )

@@ -1,8 +1,6 @@
 use Rattle.std.proofs.Common.{List, IfOk, IfSome, IsTrue, sym, ap, subst}
 use Rattle.ba_journal.specs.Journals.{IsSettled}
-use Rattle.ba_message.specs.Letters.{IsPostable}
 use Rattle.ba_node.specs.Keeping.{StandsWith}
-use Rattle.ba_node.specs.Posting.{LeavesRoom}
 use Rattle.ba_node_plans.specs.Plans.{planned_tick}
 use Rattle.ba_node.specs.inside.Commits.{due_by_tick}
 use Rattle.ba_node.proofs.Posting.{postable}
@@ -28,10 +26,9 @@ returns-clause-sendable g c =
 pub returns-clause-postable : goal.returns-clause-postable
 returns-clause-postable g c =
     let n = c.self.inside.objects.node in
-    subst (λ v. LeavesRoom v.node.base → IfOk c.take_tick.result (λ said. IfSome said.letter IsPostable)) c.self.view_is
-    (λ room. postable n c.self.invariant.base room c.args.id c.take_tick.result
+    postable n c.self.invariant.base c.args.id c.take_tick.result
     (sendable n c.args.now c.args.id (planned_tick n c.in-Ok.plan) c.take_tick.result c.in-Ok.ensures.step
-    c.self.invariant.reachable c.take_tick.ensures.letter))
+    c.self.invariant.reachable c.take_tick.ensures.letter)
 
 pub returns-clause-any_moment : goal.returns-clause-any_moment
 returns-clause-any_moment g c =

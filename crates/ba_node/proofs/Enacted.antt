@@ -1,8 +1,8 @@
 -- The change of an event that is enacted again keeps a node fit; for a load.
 use Rattle.std.proofs.Common.{◌≡◌, sym, ap, ◌∙◌, subst}
 use Rattle.ba_node_objects.specs.Changes.{changed_node}
-use Rattle.ba_enacting.specs.declared.enacting.Again.{Again}
-use Rattle.ba_enacting.specs.inside.Enacting.{told_change}
+use Rattle.ba_node.specs.declared.enacting.Again.{Again}
+use Rattle.ba_node.specs.inside.Enacting.{told_change}
 use Rattle.ba_node_steps.proofs.StepsFit.{step_fits}
 use Rattle.ba_node_steps.specs.Fits.{HasSpareCounters, NodeFits}
 use Rattle.ba_node_steps.specs.Lawful.{Change, Event, change}

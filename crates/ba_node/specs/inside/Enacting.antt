@@ -1,8 +1,8 @@
 -- Inside: what happens to a node as the code has it, and what is made of it.
 use Rattle.ba_node_objects.specs.Changes.{changed_node}
-use Rattle.ba_enacting.specs.declared.events.Event.TheVariants as event
-use Rattle.ba_enacting.specs.declared.events.Event as declared
-use Rattle.ba_enacting.specs.declared.enacting.Again.{Again}
+use Rattle.ba_node.specs.declared.events.Event.TheVariants as event
+use Rattle.ba_node.specs.declared.events.Event as declared
+use Rattle.ba_node.specs.declared.enacting.Again.{Again}
 use Rattle.ba_node_steps.specs.Lawful.{Change, Event, given, ticked}
 use Rattle.ba_node_steps.specs.Node.{NodeState}
 

@@ -1,7 +1,7 @@
 //! What happened to a node when it kept a record.
 ghost use Rattle.std.specs.Prelude.{◌≡◌};
 ghost use Rattle.std.specs.Option.{option_map};
-ghost use Rattle.ba_enacting.specs.inside.Enacting.{told_event};
+ghost use Rattle.ba_node.specs.inside.Enacting.{told_event};
 ghost use Rattle.ba_node_steps.specs.Lawful.{act_event, chosen_event, create_event, current_context, event_of, notice_event, refused_event};
 ghost use Rattle.ba_node_steps.specs.Node.{id_at, part_place, upward};
 ghost use Rattle.ba_scope.specs.Scope.{ScopeState};

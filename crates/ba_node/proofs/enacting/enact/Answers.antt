@@ -1,6 +1,6 @@
-use Rattle.ba_enacting.proofs.Enacted.{fits_again}
-use Rattle.ba_enacting.specs.inside.Enacting.{told_event}
-use Rattle.ba_enacting.proofs.enacting.enact.Goals as goal
+use Rattle.ba_node.proofs.Enacted.{fits_again}
+use Rattle.ba_node.specs.inside.Enacting.{told_event}
+use Rattle.ba_node.proofs.enacting.enact.Goals as goal
 
 pub apply-requires-clause-fits : goal.apply-requires-clause-fits
 apply-requires-clause-fits c fits =

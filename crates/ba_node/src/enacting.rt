@@ -1,7 +1,7 @@
 //! A record is enacted again, for a load.
 ghost use Rattle.std.specs.Prelude.{◌≡◌, IfOk, None, Ok, OnErr, Some, true, false};
 ghost use Rattle.ba_node_objects.specs.Changes.{Suits};
-ghost use Rattle.ba_enacting.specs.inside.Enacting.{told_change, told_event};
+ghost use Rattle.ba_node.specs.inside.Enacting.{told_change, told_event};
 ghost use Rattle.ba_node_steps.specs.Fits.{HasSpareCounters};
 ghost use Rattle.ba_node_steps.specs.Lawful.{after_record, change, is_next};
 
