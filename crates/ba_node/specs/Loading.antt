@@ -20,14 +20,14 @@ use Rattle.ba_ports.specs.declared.requests.Request.TheVariants.{Sync}
 use Rattle.ba_record.specs.Coding.{InRange, coding}
 use Rattle.ba_record.specs.declared.records.Record.{Record}
 use Rattle.ba_record.specs.declared.records.Record.TheVariants as journal
-use Rattle.ba_node_steps.specs.Lawful.{AreFew, Replays, after_record}
+use Rattle.ba_node_steps.specs.Lawful.{AreFew, Replays, after_record, first_records}
 use Rattle.ba_node_steps.specs.Node.{NodeState}
 
 -- ---- the node's own record
 
 -- the first record of a journal names its node; one without records gets it
 abbrev pub begun : ℕ → List ℕ → List Record → List Record
-begun number base [] = journal.Node number base ∷ []
+begun number base [] = first_records number base
 begun number base (r ∷ more) = r ∷ more
 
 -- ---- why a list isn't this node's
