@@ -1,7 +1,7 @@
 //! A reader, a writer, a file, a connection and a clock are used once through their traits, with a failure in
 //! the middle.
 
-use ba_ports::{Clock, Disk, Failed, Link, Sink, Source};
+use ba_ports::{Clock, Disk, Failed, Link, Moment, Sink, Source};
 use ba_ports_memory::FixedClock;
 use ba_ports_system::{FileDisk, ReadSource, SystemClock, TcpLink, WriteSink};
 use std::fs::OpenOptions;
@@ -161,7 +161,7 @@ fn talks_over_tcp(rt: HostRuntime) -> Result<(), Fail> {
 }
 
 /// The moments before and after a pause.
-fn pause<C: Clock>(clock: &C, milliseconds: u64) -> (u64, u64) {
+fn pause<C: Clock>(clock: &C, milliseconds: u64) -> (Moment, Moment) {
     let before = clock.now();
     clock.pause(milliseconds);
     (before, clock.now())
@@ -170,12 +170,12 @@ fn pause<C: Clock>(clock: &C, milliseconds: u64) -> (u64, u64) {
 #[test]
 fn pauses(rt: HostRuntime) -> Result<(), Fail> {
     let (before, after) = pause(&SystemClock::of(rt.clone()?), 20);
-    assert!(rt; before > 1_700_000_000_000);
-    assert!(rt; after >= 20 && after - 20 >= before);
+    assert!(rt; before > Moment(1_700_000_000_000));
+    assert!(rt; after.since(before) >= 20);
     Ok(())
 }
 
 #[test]
 fn stands_still(rt: HostRuntime) {
-    assert_eq!(rt; pause(&FixedClock::of(77), 1), (77, 77));
+    assert_eq!(rt; pause(&FixedClock::of(Moment(77)), 1), (Moment(77), Moment(77)));
 }
