@@ -1,11 +1,11 @@
 -- What holds of each history of a node; for the law that each node keeps its word.
-use Rattle.std.proofs.Common.{◌≡◌, ◌⊎◌, inl, inr, ℕ, suc, ◌+◌, ◌*◌, ◌≤◌, ◌<◌, ◌^◌, Bool, true, false, List, [], ◌∷◌, ◌++◌, length, Option, None, Some}
+use Rattle.std.proofs.Common.{◌≡◌, ◌⊎◌, inl, inr, ℕ, ◌+◌, ◌*◌, ◌≤◌, ◌<◌, ◌^◌, Bool, true, false, List, [], ◌∷◌, ◌++◌, length, Option, None, Some}
 use Rattle.std.proofs.Common.{refl, sym, ap, ◌∙◌, subst, arith, true≢false}
 use Rattle.std.specs.List.{list_all}
-use Rattle.std.specs.Option.{option_and_then, option_map, option_to_list}
+use Rattle.std.specs.Option.{option_map, option_to_list}
 use Rattle.std.proofs.lemmas.Nat.{mod-mul-add}
 use Rattle.ba_core.specs.EndRows.{end_tick}
-use Rattle.ba_core.specs.Messages.{end_name, notice_code, part_name}
+use Rattle.ba_core.specs.Messages.{notice_code}
 use Rattle.ba_core.specs.PartRows.{part_says}
 use Rattle.ba_core.specs.declared.identifiers.Id.{Id}
 use Rattle.ba_core.specs.declared.notices.Act.TheVariants as act
@@ -17,7 +17,6 @@ use Rattle.ba_core.specs.declared.states.How.TheVariants.{Closed}
 use Rattle.ba_core.specs.declared.states.CState.{CState}
 use Rattle.ba_core.specs.declared.states.CState.TheVariants as end
 use Rattle.ba_core.specs.declared.states.How.{How}
-use Rattle.ba_core.specs.declared.states.PState.{PState}
 use Rattle.ba_core.specs.declared.states.PState.TheVariants as part
 use Rattle.ba_link.proofs.Everywhere.{ends, only_if, part_passes, parts, state_passes, verdict_passes, verdicts, where_asked}
 use Rattle.ba_link.specs.Pairs.{is_close, is_open, is_undo, verdict_fits_state}
@@ -35,7 +34,6 @@ use Rattle.ba_scope_ends.specs.Ends.{Tick, end_in_state, tick_of_end}
 use Rattle.ba_scope_ends.specs.Parts.{tick_of_part}
 use Rattle.ba_scope_ends.specs.declared.ends.End.{End}
 use Rattle.ba_scope_ends.specs.declared.parts.Part.{Part}
-use Rattle.ba_node_steps.specs.declared.inputs.Input.{Input}
 use Rattle.ba_node_steps.specs.Addresses.{message_number, sender_of}
 use Rattle.ba_node_steps.specs.Fits.{HasSpareCounters, IsIdAt, NodeFits}
 use Rattle.ba_node_steps.specs.Histories.{HadCompleted, Happening, HasCounters, HasEndAt, HasEndVerdict, HasOneWord, HasScopeVerdict, IsTold}
@@ -44,13 +42,12 @@ use Rattle.ba_node_steps.specs.Histories.{TellsItsVerdict, atomic_has_one, child
 use Rattle.ba_node_steps.specs.Histories.{states_of, stops_with, stops_without, tick_at}
 use Rattle.ba_node_steps.specs.WordsTold.{word_in, word_told}
 use Rattle.ba_node_steps.specs.Lawful.{given, ticked}
-use Rattle.ba_node_steps.specs.Node.{Among, HasPart, NodeState, counter, last, new_node}
+use Rattle.ba_node_steps.specs.Node.{Among, HasPart, NodeState, counter, last}
 use Rattle.ba_node_steps.specs.Ticks.{TickStep, end_letter, notice_letter, part_letter, register_letter, tick_step}
 use Rattle.ba_node_steps.proofs.Cases.{SentOnly, nothing, of_end, of_lone, of_registering, of_up, tick_letters}
 use Rattle.ba_node_steps.proofs.Members.{among_right, id_by_number}
 use Rattle.ba_node_steps.proofs.Objects.{end_here, one_end, one_part, one_scope, scope_fits}
 use Rattle.ba_node_steps.proofs.PartsGo.{PartsGo, input_parts, part_back, part_on, parts_stay, tick_parts}
-use Rattle.ba_node_steps.proofs.Places.{EndStands}
 use Rattle.ba_node_steps.proofs.SameNode.{step_keeps}
 use Rattle.ba_node_steps.proofs.ScopesGo.{EndParts, atomic_verdict, closes_now, end_parts, input_goes, ScopesGo, scopes_stay, tick_moves}
 use Rattle.ba_node_steps.proofs.ScopesGo.{among_either, was_completed}

@@ -1,9 +1,9 @@
 -- What a step of a node keeps of its participants: how one ended, and whence one comes to have completed; for the law that each
 -- participant keeps its outcome.
-use Rattle.std.proofs.Common.{◌≡◌, ◌⊎◌, inl, inr, ℕ, Bool, true, false, not, ◌||◌, List, [], ◌∷◌, ◌++◌, map, Option, None, Some, refl, sym}
+use Rattle.std.proofs.Common.{◌≡◌, ◌⊎◌, inl, inr, ℕ, Bool, true, false, not, ◌||◌, [], ◌∷◌, ◌++◌, Option, None, Some, refl, sym}
 use Rattle.std.proofs.Common.{ap, ◌∙◌, subst, true≢false}
 use Rattle.std.specs.List.{list_all}
-use Rattle.ba_core.specs.PartRows.{acted_state, part_row, part_says}
+use Rattle.ba_core.specs.PartRows.{acted_state, part_row}
 use Rattle.ba_core.specs.declared.identifiers.Id.{Id}
 use Rattle.ba_core.specs.declared.notices.Act.{Act}
 use Rattle.ba_core.specs.declared.notices.Act.TheVariants as act
@@ -19,7 +19,6 @@ use Rattle.ba_core.specs.declared.states.How.{How}
 use Rattle.ba_core.specs.declared.states.PState.{PState}
 use Rattle.ba_core.specs.declared.states.PState.TheVariants as part
 use Rattle.ba_link.proofs.Everywhere.{only_if, part_passes, parts, protocol_passes, protocols, where_asked}
-use Rattle.ba_message.specs.declared.endpoints.Epr.{Epr}
 use Rattle.ba_record.specs.declared.records.Record.{Record}
 use Rattle.ba_record.specs.declared.records.Record.TheVariants as journal
 use Rattle.ba_scope.proofs.Calls.{by_option, led, registering_is, ticked_part}
@@ -48,7 +47,7 @@ use Rattle.ba_node_steps.proofs.Cases.{on_complete_cases, on_decide_cases, on_fi
 use Rattle.ba_node_steps.proofs.Cases.{register_cases, tick_cases}
 use Rattle.ba_node_steps.proofs.Members.{same_id_is}
 use Rattle.ba_node_steps.proofs.Objects.{one_lone, one_scope}
-use Rattle.ba_node_steps.proofs.Places.{EndStands, Stands, scope_found}
+use Rattle.ba_node_steps.proofs.Places.{Stands, scope_found}
 use Rattle.ba_node_steps.proofs.ScopesGo.{Follow, all_mapped, all_stay, one_pushed}
 
 -- ---- what is computed

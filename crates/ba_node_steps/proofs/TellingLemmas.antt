@@ -1,6 +1,5 @@
 -- What is told in the worked examples of histories; for the law that each node keeps its word.
-use Rattle.std.proofs.Common.{◌≡◌, inl, inr, ℕ, List, ◌∷◌, Option, Some, refl, arith}
-use Rattle.ba_core.specs.declared.identifiers.Id.{Id}
+use Rattle.std.proofs.Common.{inl, inr, ℕ, refl, arith}
 use Rattle.ba_core.specs.declared.notices.Notice.{Notice}
 use Rattle.ba_core.specs.declared.notices.Notice.TheVariants as notice
 use Rattle.ba_core.specs.declared.protocols.Verdict.TheVariants.{Close, Undo}
@@ -9,7 +8,6 @@ use Rattle.ba_message.specs.declared.messages.Letter.{Letter}
 use Rattle.ba_node_steps.specs.Addresses.{hyphenated, participant_of}
 use Rattle.ba_node_steps.specs.Examples.{first_base, object, second_base}
 use Rattle.ba_node_steps.specs.Histories.{HasCounters, IsTold, letters_of}
-use Rattle.ba_node_steps.specs.Node.{Among}
 use Rattle.ba_node_steps.specs.Tellings.{two_closes, two_undone}
 use Rattle.ba_node_steps.specs.Ticks.{notice_letter}
 

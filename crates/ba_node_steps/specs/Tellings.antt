@@ -1,5 +1,5 @@
 -- Believe: worked examples: two histories of a node, in which participants are told Close, and Undo; the last happening first.
-use Rattle.std.specs.Prelude.{List, [], ◌∷◌, ◌++◌, None, Some}
+use Rattle.std.specs.Prelude.{List, [], ◌∷◌, None, Some}
 use Rattle.ba_core.specs.declared.notices.Notice.TheVariants as notice
 use Rattle.ba_core.specs.declared.protocols.Kind.TheVariants.{Atomic}
 use Rattle.ba_core.specs.declared.protocols.Protocol.TheVariants.{Pc}

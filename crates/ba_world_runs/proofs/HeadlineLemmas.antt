@@ -1,7 +1,6 @@
 -- What a participant is told, by its endpoint; for the law that none learns two outcomes.
-use Rattle.std.proofs.Common.{◌≡◌, ℕ, true, List, ◌∷◌, Option, None, Some, refl, sym, ap, ◌∙◌, subst}
+use Rattle.std.proofs.Common.{◌≡◌, ℕ, List, ◌∷◌, None, Some, refl, sym, ap, ◌∙◌, subst}
 use Rattle.ba_core.specs.Messages.{notice_code}
-use Rattle.ba_core.specs.declared.identifiers.Id.{Id}
 use Rattle.ba_core.specs.declared.notices.Notice.{Notice}
 use Rattle.ba_core.specs.declared.notices.Notice.TheVariants as notice
 use Rattle.ba_core.specs.declared.protocols.Kind.TheVariants.{Atomic}

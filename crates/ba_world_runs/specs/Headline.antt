@@ -1,5 +1,5 @@
 -- Believe: the headline: what participants are told in a run, in words on the wire and records alone.
-use Rattle.std.specs.Prelude.{◌≡◌, ℕ, List, Some}
+use Rattle.std.specs.Prelude.{◌≡◌, List, Some}
 use Rattle.ba_core.specs.declared.protocols.Verdict.{Verdict}
 use Rattle.ba_message.specs.declared.endpoints.Epr.{Epr}
 use Rattle.ba_message.specs.declared.messages.Letter.{Letter}
@@ -9,7 +9,7 @@ use Rattle.ba_scope_ends.specs.declared.ends.End.{End}
 use Rattle.ba_node_steps.specs.Lawful.{Replays}
 use Rattle.ba_node_steps.specs.Node.{Among, NodeState}
 use Rattle.ba_node_steps.specs.WordsTold.{word_in}
-use Rattle.ba_world_runs.specs.World.{Mail, World, letter}
+use Rattle.ba_world_runs.specs.World.{World, letter}
 
 -- a letter that ever went to this endpoint told it this word: Close, or by Cancel or Compensate to undo
 pub record WasTold (w : World) (to : Epr) (v : Verdict) : Type 0 where

@@ -1,6 +1,6 @@
 -- Believe: the word that is recorded for an end: in a root its verdict, and in a child the word of the end that enrolled the
 -- child's upward part.
-use Rattle.std.specs.Prelude.{◌≡◌, ℕ, Option, None, Some}
+use Rattle.std.specs.Prelude.{◌≡◌, ℕ, None, Some}
 use Rattle.ba_core.specs.declared.protocols.Verdict.{Verdict}
 use Rattle.ba_scope.specs.Scope.{ScopeState}
 use Rattle.ba_scope_ends.specs.declared.ends.End.{End}
