@@ -35,9 +35,9 @@ module _ (n : NodeState) (id : Id) (l : Letter) (small : HasText id) where
       → input_if_at found id l.message ≡ here
   by_found (Some e) its finds = by_endpoint e its
   by_found None its finds =
-      let no : (e : Endpoint) → l.to ≢ endpoint_of n.base e id = λ e is. absurd (let h : None ≡ Some e = finds e small is in cc) in
+      let elsewhere : (e : Endpoint) → l.to ≢ endpoint_of n.base e id = λ e is. absurd (let h : None ≡ Some e = finds e small is in cc) in
       sym (nowhere n.base id l.to (register_input id l.message) (notice_input side.Coordinator id l.message)
-      (notice_input side.Participant id l.message) None (no Registration) (no Coordinator) (no Participant))
+      (notice_input side.Participant id l.message) None (elsewhere Registration) (elsewhere Coordinator) (elsewhere Participant))
 
 pub letter_by_endpoint : (n : NodeState) (id : Id) (l : Letter) (base : List ℕ) (found : Option Endpoint) → code_part id.0 ≡ 0
     → IfSome found (λ e. l.to ≡ endpoint_of base e id)
