@@ -1,5 +1,5 @@
 -- The first node of a tournament is the first of all that is due: for `Share::first`.
-use Rattle.std.proofs.Common.{◌≡◌, ℕ, zero, suc, ◌+◌, ◌-◌, ◌*◌, ◌/◌, ◌<◌, ◌≤◌, ◌⊎◌, Bool, true, false, cond, List, length, set, drop, map, get_or, refl, sym, ◌∙◌, ap, subst, inl, inr, arith}
+use Rattle.std.proofs.Common.{◌≡◌, ℕ, zero, suc, ◌+◌, ◌-◌, ◌*◌, ◌/◌, ◌<◌, ◌≤◌, ◌⊎◌, Bool, true, false, cond, List, length, set, drop, map, get_or, replicate, refl, sym, ◌∙◌, ap, subst, inl, inr, arith}
 use Rattle.std.proofs.lemmas.List.{get_or-drop, get_or_past}
 use Rattle.std.proofs.Math.ListN.{get_or-map}
 use Rattle.std.proofs.lemmas.Bool.{cases_eq, cases_lt}
@@ -157,3 +157,12 @@ root_is_first t s more = first_cases t s more (node_at t 1) refl
 
 pub nothing_is_first : (t : List (Option Entry)) → IsTournament t → length t < 2 → IsFirstOf (slots_of t) None
 nothing_is_first t s few j = slot_of_node t j ∙ ap due_in (get_or_past t (half t + j) None (omega (arith, s.even)))
+
+none_anywhere : (n k : ℕ) → get_or (replicate {A = Option Entry} n None) k None ≡ None
+none_anywhere zero k = refl
+none_anywhere (suc n) zero = refl
+none_anywhere (suc n) (suc k) = none_anywhere n k
+
+-- nothing is due where no place and no node holds anything
+pub nothing_due : (n : ℕ) (t : List (Option Entry)) → t ≡ replicate n None → (j : ℕ) → slot (slots_of t) j ≡ None
+nothing_due n t e j = slot_of_node t j ∙ ap due_in (ap (λ u. get_or u (half t + j) None) e ∙ none_anywhere n (half t + j))

@@ -1,2 +1,4 @@
-pub mod TournamentLemmas
+pub mod DueLemmas
 pub mod FirstLemmas
+pub mod RowLemmas
+pub mod TournamentLemmas

@@ -1,11 +1,13 @@
 -- Believe: the plan of a node: which of its objects are to say something again, and when. It is a finite map from their
 -- identifiers to moments and delays, in milliseconds, which four rules change.
-use Rattle.std.specs.Prelude.{◌≡◌, ℕ, ◌+◌, ◌-◌, ◌*◌, ◌%◌, ◌^◌, ◌<◌, ◌≤◌, min, Option, Some, None}
+use Rattle.std.specs.Prelude.{◌≡◌, ℕ, ◌+◌, ◌-◌, ◌*◌, ◌%◌, ◌^◌, ◌<◌, ◌≤◌, min, refl, Option, Some, None}
 use Rattle.std.specs.Ordering.{nat_cmp}
 use Rattle.std.specs.FinMap as map
+use Rattle.std.specs.Coded.{Coded, code_by, coded×, coded_ℕ}
 use Rattle.ba_core.specs.Numbers.{id_of, counter_of}
 use Rattle.ba_core.specs.declared.identifiers.Id.{Id}
 use Rattle.ba_resend.specs.declared.dues.Due.{Due}
+use Rattle.ba_resend.specs.contracts.dues.Due as due_type
 use Rattle.ba_resend.specs.declared.dues.TheConstants.{FIRST_DELAY, LONGEST_DELAY}
 
 -- what is due, by identifier
@@ -19,10 +21,20 @@ pub record Planned : Type 0 where
   pub room : ℕ
   pub due : Dues
 
+abbrev pub planned_code : Coded Planned
+planned_code =
+    code_by ((ℕ × ℕ) × (ℕ × Dues)) (coded× (coded× coded_ℕ coded_ℕ) (coded× coded_ℕ (map.code coded_ℕ due_type.the_row.coded)))
+    (λ p. ((p.node, p.senders), (p.room, p.due))) (λ q. record { node = q.0.0; senders = q.0.1; room = q.1.0; due = q.1.1 }) (λ _. refl)
+
 -- the plan has room for the identifier: one of an object of its node, whose counter is below its room
 pub record HasRoom (plan : Planned) (id : ℕ) : Type 0 where
   pub own : id ≡ id_of plan.node (counter_of id)
   pub below : counter_of id < plan.room
+
+-- what is due, where one identifier is due so, or isn't any more
+abbrev pub due_with : Dues → ℕ → Option Due → Dues
+due_with due id None = map.remove due id
+due_with due id (Some d) = map.insert due id d
 
 -- the lesser of its moment and now: what is due already stays so
 abbrev pub prompted_moment : Option Due → ℕ → ℕ

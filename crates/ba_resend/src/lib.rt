@@ -2,6 +2,8 @@
 #![tactic(auto)]
 
 mod dues;
+mod plans;
 mod shares;
 
 pub use dues::Due;
+pub use plans::Plan;

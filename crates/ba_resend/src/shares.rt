@@ -1,6 +1,6 @@
 //! The part of a plan that one sender serves.
 ghost use Rattle.ba_resend.specs.inside.Tournaments.{IsFirstOf, IsTournament, comes_first, due_in as due_of, entry_at, first_of, half, slot, slots_of};
-ghost use Rattle.std.specs.Prelude.{◌≡◌, ℕ, ◌+◌, ◌*◌, ◌/◌, ◌<◌, ◌≤◌, IfOk, OnErr, OnOk, length, slice_set, []};
+ghost use Rattle.std.specs.Prelude.{◌≡◌, ℕ, ◌+◌, ◌*◌, ◌/◌, ◌<◌, ◌≤◌, IfOk, OnErr, OnOk, None, length, slice_set, []};
 
 use crate::dues::Due;
 use ba_core::Memory;
@@ -43,10 +43,53 @@ impl Share {
         }
     }
 
+    /// A share of so many places, with nothing due.
+    fn empty(alloc: Global, places: usize) -> Result<Share, Memory>
+        ensures places { IfOk result (λ s. length s ≡ places) }
+        ensures nothing { IfOk result (λ s. (j : ℕ) → slot s j ≡ None) }
+    {
+        let Some(nodes) = places.checked_mul(2) else {
+            return Err(Memory);
+        };
+        match Vec::from_elem(alloc, None, nodes) {
+            Ok(tree) => Ok(Share { tree }),
+            Err(_) => Err(Memory),
+        }
+    }
+
     pub(crate) fn len(&self) -> usize
         ensures { result ≡ length self.now }
     {
         self.tree.len() / 2
+    }
+
+    /// Makes room for so many places, and for at least twice as many as there are where these don't do.
+    pub(crate) fn reserve(&mut self, count: usize) -> Result<(), Memory>
+        ensures slots { (j : ℕ) → slot self.new j ≡ slot self.old j }
+        ensures longer { length self.old ≤ length self.new }
+        ensures ok { OnOk result (count ≤ length self.new) }
+    {
+        let places = self.len();
+        if count <= places {
+            return Ok(());
+        }
+        let alloc = *self.tree.allocator();
+        let mut wider = Share::empty(alloc, count.max(places.saturating_mul(2)))?;
+        self.copy_to(&mut wider);
+        *self = wider;
+        Ok(())
+    }
+
+    /// Sets what is due at each place at the same place of another share, which is empty.
+    fn copy_to(&self, wider: &mut Share)
+        requires room { length self.now ≤ length wider.old }
+        requires nothing { (j : ℕ) → slot wider.old j ≡ None }
+        ensures slots { (j : ℕ) → slot wider.new j ≡ slot self.now j }
+        ensures len { length wider.new ≡ length wider.old }
+    {
+        for place in 0..self.len() {
+            wider.set(place, self.at(place));
+        }
     }
 
     /// What is due at the place, if there is that place.
