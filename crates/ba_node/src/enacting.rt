@@ -8,7 +8,7 @@ ghost use Rattle.ba_node_steps.specs.Lawful.{after_record, change, is_next};
 use crate::events::{Event, event_of};
 use ba_core::Memory;
 use ba_node_objects::{Change, Objects};
-use ba_node_plans::{next_id, plan, tick};
+use ba_node_plans::{next_id, propose, propose_tick};
 use ba_record::Record;
 
 /// What is to be made of a node again, and the record that is kept of it.
@@ -30,7 +30,7 @@ pub fn enact(node: &mut Objects, kept: Record) -> Result<bool, Memory>
     let Some(event) = event_of(node, kept) else {
         return Ok(false);
     };
-    let Again { written, change } = plan_of_event(node, event)?;
+    let Again { written, change } = proposal_of_event(node, event)?;
     if !next || written.is_none() {
         return Ok(false);
     }
@@ -51,7 +51,7 @@ fn is_next(node: &Objects, kept: &Record) -> bool
     }
 }
 
-fn plan_of_event(node: &mut Objects, event: Event) -> Result<Again, Memory>
+fn proposal_of_event(node: &mut Objects, event: Event) -> Result<Again, Memory>
     requires { HasSpareCounters node.old.node }
     ensures node { node.new.node ≡ node.old.node }
     ensures step { IfOk result (λ again. told_change node.old.node again ≡ change node.old.node (told_event event)) }
@@ -59,17 +59,17 @@ fn plan_of_event(node: &mut Objects, event: Event) -> Result<Again, Memory>
 {
     match event {
         Event::Given(now, input) => {
-            let plan = plan(node, now, input)?;
+            let proposal = propose(node, now, input)?;
             Ok(Again {
-                written: plan.written,
-                change: plan.change,
+                written: proposal.written,
+                change: proposal.change,
             })
         }
         Event::Ticked(now, id) => {
-            let plan = tick(node, now, id)?;
+            let proposal = propose_tick(node, now, id)?;
             Ok(Again {
-                written: plan.written,
-                change: plan.change,
+                written: proposal.written,
+                change: proposal.change,
             })
         }
     }

@@ -25,7 +25,7 @@ use crate::taking::{take_step, take_tick};
 use ba_core::Id;
 use ba_journal::Journal;
 use ba_node_objects::Objects;
-use ba_node_plans::{plan, tick};
+use ba_node_plans::{propose, propose_tick};
 use ba_node_steps::{Done, Input, Seen, Ticked};
 use ba_ports::{Disk, Faulty, Image};
 use std::marker::Model;
@@ -89,10 +89,10 @@ impl<D: Disk> Node<D> {
             return Err(NodeFault::Closed(count));
         }
         let _ = asked_time(&input);
-        let Ok(plan) = plan(&mut self.objects, now, input) else {
+        let Ok(proposal) = propose(&mut self.objects, now, input) else {
             return Err(NodeFault::Memory);
         };
-        take_step(&mut self.journal, &mut self.objects, plan)
+        take_step(&mut self.journal, &mut self.objects, proposal)
     }
 
     /// The object with this identifier says what it has to say at this moment, in milliseconds; a letter comes only after
@@ -121,10 +121,10 @@ impl<D: Disk> Node<D> {
         if let Some(since) = self.journal.closed() {
             return Err(NodeFault::Closed(since));
         }
-        let Ok(plan) = tick(&self.objects, now, id) else {
+        let Ok(proposal) = propose_tick(&self.objects, now, id) else {
             return Err(NodeFault::Memory);
         };
-        take_tick(&mut self.journal, &mut self.objects, plan)
+        take_tick(&mut self.journal, &mut self.objects, proposal)
     }
 
     /// What the object with this identifier shows.

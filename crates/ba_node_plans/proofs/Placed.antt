@@ -1,4 +1,4 @@
--- An object changed at its place is the object with its identifier changed, since no two have one identifier; for each plan.
+-- An object changed at its place is the object with its identifier changed, since no two have one identifier; for each proposal.
 use Rattle.std.proofs.Common.{◌≡◌, ℕ, zero, suc, Bool, true, false, List, [], ◌∷◌, map, Some, slice_get, slice_set, inl, inr, refl, sym, ap}
 use Rattle.std.proofs.Common.{◌∙◌, subst, if◌then◌else◌}
 use Rattle.std.specs.List.{AllByRecursion, IsDistinct}

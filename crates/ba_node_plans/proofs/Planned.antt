@@ -1,4 +1,4 @@
--- What a plan comes to is the step of its input: by what a look-up finds, and by what a rule of a scope answers; for each plan.
+-- What a proposal comes to is the step of its input: by what a look-up finds, and by what a rule of a scope answers; for each proposal.
 use Rattle.std.proofs.Common.{◌≡◌, ℕ, Option, None, Some, slice_get, refl, sym, ap, ◌∙◌, subst}
 use Rattle.ba_core.specs.EndRows.{chosen_state}
 use Rattle.ba_core.specs.declared.identifiers.Id.{Id}

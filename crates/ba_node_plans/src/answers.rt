@@ -2,14 +2,14 @@
 ghost use Rattle.std.specs.Prelude.{◌≡◌, IfOk};
 ghost use Rattle.ba_core.specs.declared.identifiers.Id.{Id};
 ghost use Rattle.ba_node_objects.specs.Changes.{Suits};
-ghost use Rattle.ba_node_plans.specs.Plans.{planned_step};
+ghost use Rattle.ba_node_plans.specs.Proposals.{proposed_step};
 ghost use Rattle.ba_node_objects.specs.Objects.{NodeInMemory};
 ghost use Rattle.ba_node_objects.specs.Finds.{FindsLone, FindsUp};
 ghost use Rattle.ba_node_steps.specs.Fits.{NodeFits};
 ghost use Rattle.ba_node_steps.specs.Node.{NodeState};
 ghost use Rattle.ba_node_steps.specs.Steps.{on_enrolled, on_refused_by, refusal_number};
 
-use crate::plans::Plan;
+use crate::proposals::Proposal;
 use crate::states::{can_dial, is_registering};
 use ba_core::{BAD_ADDRESS, Code, Id, Memory, NO_SUCH_PART};
 use ba_message::Epr;
@@ -21,15 +21,15 @@ use std::alloc::Global;
 // ---- refused
 
 /// The Register of the participant with this identifier was answered with a fault.
-pub fn refused_by(node: &Objects, id: Id, code: Code) -> Plan
-    ensures step { planned_step node.now.node result ≡ on_refused_by node.now.node id code }
+pub fn refused_by(node: &Objects, id: Id, code: Code) -> Proposal
+    ensures step { proposed_step node.now.node result ≡ on_refused_by node.now.node id code }
     ensures suits { Suits node.now result.change }
 {
     if let Some(found) = node.find_lone(id) {
         return lone_refused(&found, code);
     }
     match node.find_up(id) {
-        None => Plan::refused(NO_SUCH_PART, id),
+        None => Proposal::refused(NO_SUCH_PART, id),
         Some(found) => up_refused(&found, code),
     }
 }
@@ -45,18 +45,18 @@ fn number_of_refusal(code: Code) -> Option<u8>
     }
 }
 
-fn lone_refused(found: &FoundLone, code: Code) -> Plan
+fn lone_refused(found: &FoundLone, code: Code) -> Proposal
     ensures step { (n : NodeState) (id : Id) → NodeFits n → FindsLone n id found.now.place found.now.part.now
-        → planned_step n result ≡ on_refused_by n id code }
+        → proposed_step n result ≡ on_refused_by n id code }
     ensures suits { (m : NodeInMemory) (id : Id) → FindsLone m.node id found.now.place found.now.part.now → Suits m result.change }
 {
     let id = found.part.id;
     if !is_registering(found.part.state) {
-        return Plan::accepted();
+        return Proposal::accepted();
     }
     match number_of_refusal(code) {
-        None => Plan::accepted(),
-        Some(number) => Plan::kept(
+        None => Proposal::accepted(),
+        Some(number) => Proposal::kept(
             Record::Refused(id.counter(), number),
             Wake::One(id),
             Change::Part(found.place, PartChange::Refused),
@@ -64,18 +64,18 @@ fn lone_refused(found: &FoundLone, code: Code) -> Plan
     }
 }
 
-fn up_refused(found: &FoundUp, code: Code) -> Plan
+fn up_refused(found: &FoundUp, code: Code) -> Proposal
     ensures step { (n : NodeState) (id : Id) → NodeFits n → FindsUp n id found.now.place found.now.scope.now found.now.part.now
-        → planned_step n result ≡ on_refused_by n id code }
+        → proposed_step n result ≡ on_refused_by n id code }
     ensures suits { (m : NodeInMemory) (id : Id) → FindsUp m.node id found.now.place found.now.scope.now found.now.part.now → Suits m result.change }
 {
     let id = found.part.id;
     if !is_registering(found.part.state) {
-        return Plan::accepted();
+        return Proposal::accepted();
     }
     match number_of_refusal(code) {
-        None => Plan::accepted(),
-        Some(number) => Plan::kept(
+        None => Proposal::accepted(),
+        Some(number) => Proposal::kept(
             Record::Refused(id.counter(), number),
             Wake::One(id),
             Change::Scope(found.place, ScopeChange::Refused),
@@ -86,54 +86,54 @@ fn up_refused(found: &FoundUp, code: Code) -> Plan
 // ---- enrolled
 
 /// The Register of the participant with this identifier was answered: this is its coordinator's end.
-pub fn enrolled(node: &Objects, id: Id, coordinator: &Epr) -> Result<Plan, Memory>
-    ensures step { IfOk result (λ plan. planned_step node.now.node plan ≡ on_enrolled node.now.node id coordinator.now) }
-    ensures suits { IfOk result (λ plan. Suits node.now plan.change) }
+pub fn enrolled(node: &Objects, id: Id, coordinator: &Epr) -> Result<Proposal, Memory>
+    ensures step { IfOk result (λ proposal. proposed_step node.now.node proposal ≡ on_enrolled node.now.node id coordinator.now) }
+    ensures suits { IfOk result (λ proposal. Suits node.now proposal.change) }
 {
     let alloc = node.allocator();
     if let Some(found) = node.find_lone(id) {
         return lone_enrolled(alloc, &found, coordinator);
     }
     match node.find_up(id) {
-        None => Ok(Plan::refused(NO_SUCH_PART, id)),
+        None => Ok(Proposal::refused(NO_SUCH_PART, id)),
         Some(found) => up_enrolled(alloc, &found, coordinator),
     }
 }
 
-fn lone_enrolled(alloc: Global, found: &FoundLone, coordinator: &Epr) -> Result<Plan, Memory>
-    ensures step { IfOk result (λ plan. (n : NodeState) (id : Id) → NodeFits n → FindsLone n id found.now.place found.now.part.now
-        → planned_step n plan ≡ on_enrolled n id coordinator.now) }
-    ensures suits { IfOk result (λ plan. (m : NodeInMemory) (id : Id) → FindsLone m.node id found.now.place found.now.part.now → Suits m plan.change) }
+fn lone_enrolled(alloc: Global, found: &FoundLone, coordinator: &Epr) -> Result<Proposal, Memory>
+    ensures step { IfOk result (λ proposal. (n : NodeState) (id : Id) → NodeFits n → FindsLone n id found.now.place found.now.part.now
+        → proposed_step n proposal ≡ on_enrolled n id coordinator.now) }
+    ensures suits { IfOk result (λ proposal. (m : NodeInMemory) (id : Id) → FindsLone m.node id found.now.place found.now.part.now → Suits m proposal.change) }
 {
     let id = found.part.id;
     if !is_registering(found.part.state) {
-        return Ok(Plan::accepted());
+        return Ok(Proposal::accepted());
     }
     if !can_dial(coordinator.address.as_slice()) {
-        return Ok(Plan::refused(BAD_ADDRESS, id));
+        return Ok(Proposal::refused(BAD_ADDRESS, id));
     }
     let copies = two_copies(alloc, coordinator)?;
-    Ok(Plan::kept(
+    Ok(Proposal::kept(
         Record::Enrolled(id.counter(), copies.first),
         Wake::One(id),
         Change::Part(found.place, PartChange::Enrolled(copies.second)),
     ))
 }
 
-fn up_enrolled(alloc: Global, found: &FoundUp, coordinator: &Epr) -> Result<Plan, Memory>
-    ensures step { IfOk result (λ plan. (n : NodeState) (id : Id) → NodeFits n → FindsUp n id found.now.place found.now.scope.now found.now.part.now
-        → planned_step n plan ≡ on_enrolled n id coordinator.now) }
-    ensures suits { IfOk result (λ plan. (m : NodeInMemory) (id : Id) → FindsUp m.node id found.now.place found.now.scope.now found.now.part.now → Suits m plan.change) }
+fn up_enrolled(alloc: Global, found: &FoundUp, coordinator: &Epr) -> Result<Proposal, Memory>
+    ensures step { IfOk result (λ proposal. (n : NodeState) (id : Id) → NodeFits n → FindsUp n id found.now.place found.now.scope.now found.now.part.now
+        → proposed_step n proposal ≡ on_enrolled n id coordinator.now) }
+    ensures suits { IfOk result (λ proposal. (m : NodeInMemory) (id : Id) → FindsUp m.node id found.now.place found.now.scope.now found.now.part.now → Suits m proposal.change) }
 {
     let id = found.part.id;
     if !is_registering(found.part.state) {
-        return Ok(Plan::accepted());
+        return Ok(Proposal::accepted());
     }
     if !can_dial(coordinator.address.as_slice()) {
-        return Ok(Plan::refused(BAD_ADDRESS, id));
+        return Ok(Proposal::refused(BAD_ADDRESS, id));
     }
     let copies = two_copies(alloc, coordinator)?;
-    Ok(Plan::kept(
+    Ok(Proposal::kept(
         Record::Enrolled(id.counter(), copies.first),
         Wake::One(id),
         Change::Scope(found.place, ScopeChange::Enrolled(copies.second)),

@@ -2,7 +2,7 @@
 ghost use Rattle.std.specs.Prelude.{◌≡◌, ◌<◌, ◌≤◌, IfOk, IfSome, IsTrue, None};
 ghost use Rattle.std.specs.Option.{option_map};
 ghost use Rattle.ba_node_objects.specs.Changes.{Suits};
-ghost use Rattle.ba_node_plans.specs.Plans.{planned_step};
+ghost use Rattle.ba_node_plans.specs.Proposals.{proposed_step};
 ghost use Rattle.ba_node_plans.specs.inside.Joining.{join_step};
 ghost use Rattle.ba_scope.specs.Fits.{up_fits};
 ghost use Rattle.ba_scope_ends.specs.Parts.{is_registering};
@@ -10,7 +10,7 @@ ghost use Rattle.ba_node_steps.specs.Fits.{HasSpareCounters};
 ghost use Rattle.ba_node_steps.specs.Node.{next_id};
 ghost use Rattle.ba_node_steps.specs.Steps.{create_child, create_scope, deadline_after, is_of_kind, new_context, new_part, on_create, on_join, upward_fields};
 
-use crate::plans::Plan;
+use crate::proposals::Proposal;
 use crate::states::can_dial;
 use ba_core::{BAD_ADDRESS, Code, Id, Kind, Memory, PState, Protocol};
 use ba_message::{Context, Epr};
@@ -33,14 +33,14 @@ pub fn create(
     current: Option<Context>,
     kind: Option<Kind>,
     up: Protocol,
-) -> Result<Plan, Memory>
+) -> Result<Proposal, Memory>
     requires { HasSpareCounters node.old.node }
     ensures node { node.new.node ≡ node.old.node }
-    ensures step { IfOk result (λ plan. planned_step node.old.node plan ≡ on_create node.old.node now expires current kind up) }
-    ensures suits { IfOk result (λ plan. Suits node.new plan.change) }
+    ensures step { IfOk result (λ proposal. proposed_step node.old.node proposal ≡ on_create node.old.node now expires current kind up) }
+    ensures suits { IfOk result (λ proposal. Suits node.new proposal.change) }
 {
     match kind {
-        None => Ok(Plan::fault(Code::CannotCreateContext)),
+        None => Ok(Proposal::fault(Code::CannotCreateContext)),
         Some(kind) => match current {
             None => create_root(node, now, expires, kind),
             Some(current) => create_child(node, now, expires, kind, current, up),
@@ -53,11 +53,11 @@ fn create_root(
     now: u64,
     expires: Option<u32>,
     kind: Kind,
-) -> Result<Plan, Memory>
+) -> Result<Proposal, Memory>
     requires { HasSpareCounters node.old.node }
     ensures node { node.new.node ≡ node.old.node }
-    ensures step { IfOk result (λ plan. planned_step node.old.node plan ≡ create_scope node.old.node now expires kind None Wake.Nobody) }
-    ensures suits { IfOk result (λ plan. Suits node.new plan.change) }
+    ensures step { IfOk result (λ proposal. proposed_step node.old.node proposal ≡ create_scope node.old.node now expires kind None Wake.Nobody) }
+    ensures suits { IfOk result (λ proposal. Suits node.new proposal.change) }
 {
     node.reserve()?;
     make_scope(node, now, expires, kind, None, Wake::Nobody)
@@ -70,11 +70,11 @@ fn create_child(
     kind: Kind,
     current: Context,
     protocol: Protocol,
-) -> Result<Plan, Memory>
+) -> Result<Proposal, Memory>
     requires { HasSpareCounters node.old.node }
     ensures node { node.new.node ≡ node.old.node }
-    ensures step { IfOk result (λ plan. planned_step node.old.node plan ≡ create_child node.old.node now expires kind current protocol) }
-    ensures suits { IfOk result (λ plan. Suits node.new plan.change) }
+    ensures step { IfOk result (λ proposal. proposed_step node.old.node proposal ≡ create_child node.old.node now expires kind current protocol) }
+    ensures suits { IfOk result (λ proposal. Suits node.new proposal.change) }
 {
     let Context {
         identifier: _,
@@ -83,10 +83,10 @@ fn create_child(
         registration,
     } = current;
     if !is_of_kind(kind, of_current) {
-        return Ok(Plan::fault(Code::CannotCreateContext));
+        return Ok(Proposal::fault(Code::CannotCreateContext));
     }
     if !can_dial(registration.address.as_slice()) {
-        return Ok(Plan::fault(Code::InvalidParameters));
+        return Ok(Proposal::fault(Code::InvalidParameters));
     }
     node.reserve()?;
     let id = next_id(node, 2);
@@ -101,20 +101,20 @@ fn make_scope(
     kind: Kind,
     up: Option<Part>,
     wake: Wake,
-) -> Result<Plan, Memory>
+) -> Result<Proposal, Memory>
     requires spare { HasSpareCounters node.now.node }
     requires room { 0 < node.now.room }
     requires registering { IfSome up (λ part. IsTrue (is_registering (Some part))) }
     requires up_fits { IsTrue (up_fits up) }
-    ensures step { IfOk result (λ plan. planned_step node.now.node plan ≡ create_scope node.now.node now expires kind up wake) }
-    ensures suits { IfOk result (λ plan. Suits node.now plan.change) }
+    ensures step { IfOk result (λ proposal. proposed_step node.now.node proposal ≡ create_scope node.now.node now expires kind up wake) }
+    ensures suits { IfOk result (λ proposal. Suits node.now proposal.change) }
 {
     let alloc = node.allocator();
     let id = next_id(node, 1);
     let deadline = deadline_after(now, expires);
     let above = upward_fields(alloc, &up)?;
     let context = new_context(node, id, kind, expires)?;
-    Ok(Plan {
+    Ok(Proposal {
         reply: Reply::Context(context),
         wake,
         written: Some(Record::Scope(id.counter(), kind, deadline, above)),
@@ -194,28 +194,28 @@ fn new_part(id: Id, protocol: Protocol, registration: Epr) -> Part
 // ---- a lone participant
 
 /// A participant is to be made that registers there.
-pub fn join(node: &mut Objects, protocol: Protocol, registration: Epr) -> Result<Plan, Memory>
+pub fn join(node: &mut Objects, protocol: Protocol, registration: Epr) -> Result<Proposal, Memory>
     requires { HasSpareCounters node.old.node }
     ensures node { node.new.node ≡ node.old.node }
-    ensures step { IfOk result (λ plan. planned_step node.old.node plan ≡ on_join node.old.node protocol registration) }
-    ensures suits { IfOk result (λ plan. Suits node.new plan.change) }
+    ensures step { IfOk result (λ proposal. proposed_step node.old.node proposal ≡ on_join node.old.node protocol registration) }
+    ensures suits { IfOk result (λ proposal. Suits node.new proposal.change) }
 {
     if !can_dial(registration.address.as_slice()) {
-        return Ok(Plan::refused(BAD_ADDRESS, Id::of(node.number(), 0)));
+        return Ok(Proposal::refused(BAD_ADDRESS, Id::of(node.number(), 0)));
     }
     node.reserve()?;
     make_part(node, protocol, registration)
 }
 
-fn make_part(node: &Objects, protocol: Protocol, registration: Epr) -> Result<Plan, Memory>
+fn make_part(node: &Objects, protocol: Protocol, registration: Epr) -> Result<Proposal, Memory>
     requires spare { HasSpareCounters node.now.node }
     requires room { 0 < node.now.room }
-    ensures step { IfOk result (λ plan. planned_step node.now.node plan ≡ join_step node.now.node protocol registration) }
-    ensures suits { IfOk result (λ plan. Suits node.now plan.change) }
+    ensures step { IfOk result (λ proposal. proposed_step node.now.node proposal ≡ join_step node.now.node protocol registration) }
+    ensures suits { IfOk result (λ proposal. Suits node.now proposal.change) }
 {
     let id = next_id(node, 1);
     let kept = registration.copy(node.allocator())?;
-    Ok(Plan {
+    Ok(Proposal {
         reply: Reply::Joined(id),
         wake: Wake::One(id),
         written: Some(Record::Part(id.counter(), protocol, kept)),

@@ -2,13 +2,13 @@
 ghost use Rattle.std.specs.Prelude.{◌≡◌, IsTrue};
 ghost use Rattle.ba_core.specs.EndRows.{chosen_state};
 ghost use Rattle.ba_node_objects.specs.Changes.{Suits};
-ghost use Rattle.ba_node_plans.specs.Plans.{planned_step};
+ghost use Rattle.ba_node_plans.specs.Proposals.{proposed_step};
 ghost use Rattle.ba_scope_ends.specs.Ends.{has_own_state};
 ghost use Rattle.ba_scope.specs.Rules.{leave_act};
 ghost use Rattle.ba_node_steps.specs.Fits.{NodeFits};
 ghost use Rattle.ba_node_steps.specs.Steps.{choice_number, on_choose, on_complete, on_decide, on_finish, on_leave, wake_of_choice};
 
-use crate::plans::Plan;
+use crate::proposals::Proposal;
 use ba_core::{Act, Id, Leave, NO_SUCH_END, NO_SUCH_SCOPE, NOT_A_CHILD, Verdict};
 use ba_node_objects::{Change, Objects, ScopeChange};
 use ba_node_steps::Wake;
@@ -20,16 +20,16 @@ use ba_scope_ends::End;
 const NUMBER_OF_COMPLETE: u8 = 3;
 
 /// A verdict on a root of type AtomicOutcome.
-pub fn decide(node: &Objects, id: Id, verdict: Verdict) -> Plan
-    ensures step { planned_step node.now.node result ≡ on_decide node.now.node id verdict }
+pub fn decide(node: &Objects, id: Id, verdict: Verdict) -> Proposal
+    ensures step { proposed_step node.now.node result ≡ on_decide node.now.node id verdict }
     ensures suits { Suits node.now result.change }
 {
     let Some(found) = node.find_scope(id) else {
-        return Plan::refused(NO_SUCH_SCOPE, id);
+        return Proposal::refused(NO_SUCH_SCOPE, id);
     };
     match found.scope.decision(verdict) {
-        Said::No(number, shown) => Plan::refused(number, shown),
-        Said::Ok => Plan::kept(
+        Said::No(number, shown) => Proposal::refused(number, shown),
+        Said::Ok => Proposal::kept(
             Record::Decided(id.counter(), verdict),
             Wake::Scope(id),
             Change::Scope(found.place, ScopeChange::Decide(verdict)),
@@ -38,16 +38,16 @@ pub fn decide(node: &Objects, id: Id, verdict: Verdict) -> Plan
 }
 
 /// A verdict on one end of a root of type MixedOutcome.
-pub fn choose(node: &Objects, id: Id, verdict: Verdict) -> Plan
-    ensures step { planned_step node.now.node result ≡ on_choose node.now.node id verdict }
+pub fn choose(node: &Objects, id: Id, verdict: Verdict) -> Proposal
+    ensures step { proposed_step node.now.node result ≡ on_choose node.now.node id verdict }
     ensures suits { Suits node.now result.change }
 {
     let Some(found) = node.find_end(id) else {
-        return Plan::refused(NO_SUCH_END, id);
+        return Proposal::refused(NO_SUCH_END, id);
     };
     match found.scope.choice(id, verdict) {
-        Said::No(number, shown) => Plan::refused(number, shown),
-        Said::Ok => Plan::kept(
+        Said::No(number, shown) => Proposal::refused(number, shown),
+        Said::Ok => Proposal::kept(
             Record::Chosen(id.counter(), number_of_choice(verdict)),
             wake_by_choice(found.end, verdict),
             Change::Scope(found.place, ScopeChange::Choose(id, verdict)),
@@ -77,16 +77,16 @@ fn wake_by_choice(end: &End, verdict: Verdict) -> Wake
 }
 
 /// An end's participant is to be asked to complete.
-pub fn complete(node: &Objects, id: Id) -> Plan
-    ensures step { planned_step node.now.node result ≡ on_complete node.now.node id }
+pub fn complete(node: &Objects, id: Id) -> Proposal
+    ensures step { proposed_step node.now.node result ≡ on_complete node.now.node id }
     ensures suits { Suits node.now result.change }
 {
     let Some(found) = node.find_end(id) else {
-        return Plan::refused(NO_SUCH_END, id);
+        return Proposal::refused(NO_SUCH_END, id);
     };
     match found.scope.completion(id) {
-        Said::No(number, shown) => Plan::refused(number, shown),
-        Said::Ok => Plan::kept(
+        Said::No(number, shown) => Proposal::refused(number, shown),
+        Said::Ok => Proposal::kept(
             Record::Chosen(id.counter(), NUMBER_OF_COMPLETE),
             Wake::One(id),
             Change::Scope(found.place, ScopeChange::Complete(id)),
@@ -95,19 +95,19 @@ pub fn complete(node: &Objects, id: Id) -> Plan
 }
 
 /// The work of a child scope is done.
-pub fn finish(node: &Objects, id: Id) -> Plan
-    ensures step { planned_step node.now.node result ≡ on_finish node.now.node id }
+pub fn finish(node: &Objects, id: Id) -> Proposal
+    ensures step { proposed_step node.now.node result ≡ on_finish node.now.node id }
     ensures suits { Suits node.now result.change }
 {
     let Some(found) = node.find_scope(id) else {
-        return Plan::refused(NO_SUCH_SCOPE, id);
+        return Proposal::refused(NO_SUCH_SCOPE, id);
     };
     let Some(up) = found.scope.up() else {
-        return Plan::refused(NOT_A_CHILD, id);
+        return Proposal::refused(NOT_A_CHILD, id);
     };
     match found.scope.finishing() {
-        Said::No(number, shown) => Plan::refused(number, shown),
-        Said::Ok => Plan::kept(
+        Said::No(number, shown) => Proposal::refused(number, shown),
+        Said::Ok => Proposal::kept(
             Record::Acted(up.id.counter(), Act::Completed),
             Wake::One(up.id),
             Change::Scope(found.place, ScopeChange::Finish),
@@ -116,19 +116,19 @@ pub fn finish(node: &Objects, id: Id) -> Plan
 }
 
 /// A child scope leaves its activity.
-pub fn leave(node: &Objects, id: Id, how: Leave) -> Plan
-    ensures step { planned_step node.now.node result ≡ on_leave node.now.node id how }
+pub fn leave(node: &Objects, id: Id, how: Leave) -> Proposal
+    ensures step { proposed_step node.now.node result ≡ on_leave node.now.node id how }
     ensures suits { Suits node.now result.change }
 {
     let Some(found) = node.find_scope(id) else {
-        return Plan::refused(NO_SUCH_SCOPE, id);
+        return Proposal::refused(NO_SUCH_SCOPE, id);
     };
     let Some(up) = found.scope.up() else {
-        return Plan::refused(NOT_A_CHILD, id);
+        return Proposal::refused(NOT_A_CHILD, id);
     };
     match found.scope.leaving(how) {
-        Said::No(number, shown) => Plan::refused(number, shown),
-        Said::Ok => Plan::kept(
+        Said::No(number, shown) => Proposal::refused(number, shown),
+        Said::Ok => Proposal::kept(
             Record::Acted(up.id.counter(), act_of_leave(how)),
             Wake::One(up.id),
             Change::Scope(found.place, ScopeChange::Leave(how)),

@@ -1,7 +1,7 @@
 //! Each input.
 ghost use Rattle.std.specs.Prelude.{◌≡◌, IfOk};
 ghost use Rattle.ba_node_objects.specs.Changes.{Suits};
-ghost use Rattle.ba_node_plans.specs.Plans.{planned_step};
+ghost use Rattle.ba_node_plans.specs.Proposals.{proposed_step};
 ghost use Rattle.ba_node_steps.specs.Fits.{HasSpareCounters};
 ghost use Rattle.ba_node_steps.specs.Steps.{node_step};
 
@@ -11,7 +11,7 @@ use crate::asks::ask;
 use crate::creating::{create, join};
 use crate::decisions::{choose, complete, decide, finish, leave};
 use crate::notices::notice;
-use crate::plans::Plan;
+use crate::proposals::Proposal;
 use crate::registering::register;
 use ba_core::Memory;
 use ba_node_objects::Objects;
@@ -19,11 +19,11 @@ use ba_node_steps::Input;
 
 /// What an input is to make of a node at this moment, in milliseconds: exactly its step. Only memory for a new object is
 /// taken.
-pub fn plan(node: &mut Objects, now: u64, input: Input) -> Result<Plan, Memory>
+pub fn propose(node: &mut Objects, now: u64, input: Input) -> Result<Proposal, Memory>
     requires { HasSpareCounters node.old.node }
     ensures node { node.new.node ≡ node.old.node }
-    ensures step { IfOk result (λ plan. planned_step node.old.node plan ≡ node_step node.old.node now input) }
-    ensures suits { IfOk result (λ plan. Suits node.new plan.change) }
+    ensures step { IfOk result (λ proposal. proposed_step node.old.node proposal ≡ node_step node.old.node now input) }
+    ensures suits { IfOk result (λ proposal. Suits node.new proposal.change) }
 {
     match input {
         Input::Create {

@@ -4,7 +4,7 @@ ghost use Rattle.std.specs.Option.{option_map};
 ghost use Rattle.ba_message.specs.Endpoints.{same_epr};
 ghost use Rattle.ba_node_objects.specs.Changes.{Suits};
 ghost use Rattle.ba_node_objects.specs.Finds.{FindsScope};
-ghost use Rattle.ba_node_plans.specs.Plans.{planned_step};
+ghost use Rattle.ba_node_plans.specs.Proposals.{proposed_step};
 ghost use Rattle.ba_node_plans.specs.inside.Registering.{refusal_code, register_dialed};
 ghost use Rattle.ba_scope.specs.Rules.{enrol_refusal};
 ghost use Rattle.ba_scope_ends.specs.Ends.{end_of};
@@ -12,7 +12,7 @@ ghost use Rattle.ba_node_steps.specs.Fits.{HasSpareCounters};
 ghost use Rattle.ba_node_steps.specs.Steps.{enrol_unless, enrolled_before, on_register, register_at, same_protocol};
 
 use crate::creating::next_id;
-use crate::plans::Plan;
+use crate::proposals::Proposal;
 use crate::states::can_dial;
 use ba_core::{Code, Id, Memory, Protocol};
 use ba_message::Epr;
@@ -30,16 +30,16 @@ pub fn register(
     scope: Id,
     protocol: Option<Protocol>,
     participant: Epr,
-) -> Result<Plan, Memory>
+) -> Result<Proposal, Memory>
     requires { HasSpareCounters node.now.node }
-    ensures step { IfOk result (λ plan. planned_step node.now.node plan ≡ on_register node.now.node scope protocol participant) }
-    ensures suits { IfOk result (λ plan. Suits node.now plan.change) }
+    ensures step { IfOk result (λ proposal. proposed_step node.now.node proposal ≡ on_register node.now.node scope protocol participant) }
+    ensures suits { IfOk result (λ proposal. Suits node.now proposal.change) }
 {
     let Some(found) = node.find_scope(scope) else {
-        return Ok(Plan::fault(Code::DestinationUnreachable));
+        return Ok(Proposal::fault(Code::DestinationUnreachable));
     };
     match protocol {
-        None => Ok(Plan::fault(Code::InvalidProtocol)),
+        None => Ok(Proposal::fault(Code::InvalidProtocol)),
         Some(known) => register_known(node, scope, &found, known, participant),
     }
 }
@@ -50,14 +50,14 @@ fn register_known(
     found: &FoundScope,
     protocol: Protocol,
     participant: Epr,
-) -> Result<Plan, Memory>
+) -> Result<Proposal, Memory>
     requires spare { HasSpareCounters node.now.node }
     requires finds { FindsScope node.now.node id found.now.place found.now.scope.now }
-    ensures step { IfOk result (λ plan. planned_step node.now.node plan ≡ register_dialed node.now.node found.now.scope.now protocol participant) }
-    ensures suits { IfOk result (λ plan. Suits node.now plan.change) }
+    ensures step { IfOk result (λ proposal. proposed_step node.now.node proposal ≡ register_dialed node.now.node found.now.scope.now protocol participant) }
+    ensures suits { IfOk result (λ proposal. Suits node.now proposal.change) }
 {
     if !can_dial(participant.address.as_slice()) {
-        return Ok(Plan::fault(Code::InvalidParameters));
+        return Ok(Proposal::fault(Code::InvalidParameters));
     }
     match end_of(found.scope, &participant) {
         Some(end) => again(node, end, protocol),
@@ -80,15 +80,15 @@ fn is_of(end: &End, participant: &Epr) -> bool
 }
 
 // It was enrolled before.
-fn again(node: &Objects, end: &End, protocol: Protocol) -> Result<Plan, Memory>
-    ensures step { IfOk result (λ plan. planned_step node.now.node plan ≡ enrolled_before node.now.node protocol end.now) }
-    ensures change { IfOk result (λ plan. plan.change ≡ Change.Nothing) }
+fn again(node: &Objects, end: &End, protocol: Protocol) -> Result<Proposal, Memory>
+    ensures step { IfOk result (λ proposal. proposed_step node.now.node proposal ≡ enrolled_before node.now.node protocol end.now) }
+    ensures change { IfOk result (λ proposal. proposal.change ≡ Change.Nothing) }
 {
     if !is_same_protocol(end.protocol, protocol) {
-        return Ok(Plan::fault(Code::InvalidParameters));
+        return Ok(Proposal::fault(Code::InvalidParameters));
     }
     let coordinator = coordinator_of(node.allocator(), node.base(), end.id)?;
-    Ok(Plan::only(Reply::Enrolment(coordinator)))
+    Ok(Proposal::only(Reply::Enrolment(coordinator)))
 }
 
 fn is_same_protocol(a: Protocol, b: Protocol) -> bool
@@ -106,22 +106,22 @@ fn enrol(
     found: &FoundScope,
     protocol: Protocol,
     participant: Epr,
-) -> Result<Plan, Memory>
+) -> Result<Proposal, Memory>
     requires spare { HasSpareCounters node.now.node }
     requires finds { FindsScope node.now.node id found.now.place found.now.scope.now }
     requires new_participant { end_of found.now.scope.now.ends participant ≡ None }
-    ensures step { IfOk result (λ plan. planned_step node.now.node plan ≡ enrol_unless node.now.node found.now.scope.now protocol participant (enrol_refusal found.now.scope.now)) }
-    ensures suits { IfOk result (λ plan. Suits node.now plan.change) }
+    ensures step { IfOk result (λ proposal. proposed_step node.now.node proposal ≡ enrol_unless node.now.node found.now.scope.now protocol participant (enrol_refusal found.now.scope.now)) }
+    ensures suits { IfOk result (λ proposal. Suits node.now proposal.change) }
 {
     if let Some(why) = found.scope.enrol_refusal() {
-        return Ok(Plan::fault(code_of_refusal(why)));
+        return Ok(Proposal::fault(code_of_refusal(why)));
     }
     let alloc = node.allocator();
     let room = found.scope.room()?;
     let end = next_id(node, 1);
     let kept = participant.copy(alloc)?;
     let coordinator = coordinator_of(alloc, node.base(), end)?;
-    Ok(Plan {
+    Ok(Proposal {
         reply: Reply::Enrolment(coordinator),
         wake: Wake::One(end),
         written: Some(Record::End(end.counter(), id.counter(), protocol, kept)),

@@ -4,7 +4,7 @@ ghost use Rattle.ba_core.specs.declared.identifiers.Id.{Id};
 ghost use Rattle.ba_node_objects.specs.Changes.{Suits};
 ghost use Rattle.ba_node_objects.specs.Finds.{FindsEnd, FindsLone, FindsScope, FindsUp};
 ghost use Rattle.ba_node_objects.specs.Objects.{NodeInMemory};
-ghost use Rattle.ba_node_plans.specs.Plans.{planned_tick};
+ghost use Rattle.ba_node_plans.specs.Proposals.{proposed_tick};
 ghost use Rattle.ba_node_plans.specs.inside.Ticking.{end_changes, part_talks, wake_at_end};
 ghost use Rattle.ba_scope.specs.Rules.{state_at_tick};
 ghost use Rattle.ba_node_steps.specs.Node.{NodeState, lone, upward};
@@ -12,7 +12,7 @@ ghost use Rattle.ba_node_steps.specs.Steps.{same_part_state};
 ghost use Rattle.ba_node_steps.specs.Ticks.{end_letter, notice_letter, part_letter, register_letter, tick_at_end, tick_at_part, tick_at_scope, tick_lone, tick_step, tick_upward};
 
 use crate::notices::wake_by_end;
-use crate::plans::TickPlan;
+use crate::proposals::TickProposal;
 use crate::states::{is_registering, same_end, same_part};
 use ba_core::{CState, Id, Memory, Notice, code_of};
 use ba_message::{Epr, Letter, Message};
@@ -25,9 +25,9 @@ use ba_scope_ends::{End, Part};
 use std::alloc::Global;
 
 /// The object with this identifier says what it has to say at this moment, in milliseconds.
-pub fn tick(node: &Objects, now: u64, id: Id) -> Result<TickPlan, Memory>
-    ensures step { IfOk result (λ plan. planned_tick node.now.node plan ≡ tick_step node.now.node now id) }
-    ensures suits { IfOk result (λ plan. Suits node.now plan.change) }
+pub fn propose_tick(node: &Objects, now: u64, id: Id) -> Result<TickProposal, Memory>
+    ensures step { IfOk result (λ proposal. proposed_tick node.now.node proposal ≡ tick_step node.now.node now id) }
+    ensures suits { IfOk result (λ proposal. Suits node.now proposal.change) }
 {
     if let Some(found) = node.find_scope(id) {
         return Ok(tick_scope(&found, now));
@@ -39,23 +39,23 @@ pub fn tick(node: &Objects, now: u64, id: Id) -> Result<TickPlan, Memory>
         return lone_at_tick(node, id, &found);
     }
     match node.find_up(id) {
-        None => Ok(TickPlan::saying(None)),
+        None => Ok(TickProposal::saying(None)),
         Some(found) => up_at_tick(node, id, &found),
     }
 }
 
 // ---- a scope: its deadline may be past
 
-fn tick_scope(found: &FoundScope, now: u64) -> TickPlan
+fn tick_scope(found: &FoundScope, now: u64) -> TickProposal
     ensures step { (n : NodeState) (id : Id) → FindsScope n id found.now.place found.now.scope.now
-        → planned_tick n result ≡ tick_at_scope n found.now.scope.now now }
+        → proposed_tick n result ≡ tick_at_scope n found.now.scope.now now }
     ensures suits { (m : NodeInMemory) (id : Id) → FindsScope m.node id found.now.place found.now.scope.now → Suits m result.change }
 {
     if !found.scope.expires(now) {
-        return TickPlan::saying(None);
+        return TickProposal::saying(None);
     }
     let id = found.scope.id();
-    TickPlan::changing(
+    TickProposal::changing(
         None,
         id,
         Wake::Scope(id),
@@ -65,18 +65,18 @@ fn tick_scope(found: &FoundScope, now: u64) -> TickPlan
 
 // ---- an end
 
-fn tick_end(node: &Objects, id: Id, found: &FoundEnd) -> Result<TickPlan, Memory>
+fn tick_end(node: &Objects, id: Id, found: &FoundEnd) -> Result<TickProposal, Memory>
     requires { FindsEnd node.now.node id found.now.place found.now.scope.now found.now.end.now }
-    ensures step { IfOk result (λ plan. planned_tick node.now.node plan ≡ tick_at_end node.now.node found.now.scope.now found.now.end.now) }
-    ensures suits { IfOk result (λ plan. Suits node.now plan.change) }
+    ensures step { IfOk result (λ proposal. proposed_tick node.now.node proposal ≡ tick_at_end node.now.node found.now.scope.now found.now.end.now) }
+    ensures suits { IfOk result (λ proposal. Suits node.now proposal.change) }
 {
     let end = found.end;
     let (next, says) = end.at_tick();
     let letter = letter_of_end(node.allocator(), end, says)?;
     if !changes_at_tick(end, next) {
-        return Ok(TickPlan::saying(letter));
+        return Ok(TickProposal::saying(letter));
     }
-    Ok(TickPlan::changing(
+    Ok(TickProposal::changing(
         letter,
         id,
         wake_after_tick(found, next),
@@ -126,26 +126,26 @@ fn letter_with(alloc: Global, sender: Id, to: &Epr, notice: Notice) -> Result<Le
 
 // ---- a participant
 
-fn lone_at_tick(node: &Objects, id: Id, found: &FoundLone) -> Result<TickPlan, Memory>
+fn lone_at_tick(node: &Objects, id: Id, found: &FoundLone) -> Result<TickProposal, Memory>
     requires { FindsLone node.now.node id found.now.place found.now.part.now }
-    ensures step { IfOk result (λ plan. planned_tick node.now.node plan ≡ tick_at_part node.now.node (lone found.now.part.now)) }
-    ensures suits { IfOk result (λ plan. Suits node.now plan.change) }
+    ensures step { IfOk result (λ proposal. proposed_tick node.now.node proposal ≡ tick_at_part node.now.node (lone found.now.part.now)) }
+    ensures suits { IfOk result (λ proposal. Suits node.now proposal.change) }
 {
     if is_registering(found.part.state) {
         let letter = register_of(node, found.part)?;
-        return Ok(TickPlan::saying(Some(letter)));
+        return Ok(TickProposal::saying(Some(letter)));
     }
     tick_lone(node, id, found)
 }
 
-fn up_at_tick(node: &Objects, id: Id, found: &FoundUp) -> Result<TickPlan, Memory>
+fn up_at_tick(node: &Objects, id: Id, found: &FoundUp) -> Result<TickProposal, Memory>
     requires { FindsUp node.now.node id found.now.place found.now.scope.now found.now.part.now }
-    ensures step { IfOk result (λ plan. planned_tick node.now.node plan ≡ tick_at_part node.now.node (upward found.now.scope.now found.now.part.now)) }
-    ensures suits { IfOk result (λ plan. Suits node.now plan.change) }
+    ensures step { IfOk result (λ proposal. proposed_tick node.now.node proposal ≡ tick_at_part node.now.node (upward found.now.scope.now found.now.part.now)) }
+    ensures suits { IfOk result (λ proposal. Suits node.now proposal.change) }
 {
     if is_registering(found.part.state) {
         let letter = register_of(node, found.part)?;
-        return Ok(TickPlan::saying(Some(letter)));
+        return Ok(TickProposal::saying(Some(letter)));
     }
     tick_above(node, id, found)
 }
@@ -167,19 +167,19 @@ fn register_of(node: &Objects, part: &Part) -> Result<Letter, Memory>
     })
 }
 
-fn tick_lone(node: &Objects, id: Id, found: &FoundLone) -> Result<TickPlan, Memory>
+fn tick_lone(node: &Objects, id: Id, found: &FoundLone) -> Result<TickProposal, Memory>
     requires { FindsLone node.now.node id found.now.place found.now.part.now }
-    ensures step { IfOk result (λ plan. planned_tick node.now.node plan ≡ tick_lone node.now.node found.now.part.now) }
-    ensures suits { IfOk result (λ plan. Suits node.now plan.change) }
+    ensures step { IfOk result (λ proposal. proposed_tick node.now.node proposal ≡ tick_lone node.now.node found.now.part.now) }
+    ensures suits { IfOk result (λ proposal. Suits node.now proposal.change) }
 {
     let part = found.part;
     if !talks(part) {
         let says = ba_tables::p_says(part.protocol, part.state);
         let letter = letter_of_part(node.allocator(), part, says)?;
-        return Ok(TickPlan::saying(letter));
+        return Ok(TickProposal::saying(letter));
     }
     let letter = letter_of_part(node.allocator(), part, part.says())?;
-    Ok(TickPlan::changing(
+    Ok(TickProposal::changing(
         letter,
         id,
         Wake::Nobody,
@@ -188,20 +188,20 @@ fn tick_lone(node: &Objects, id: Id, found: &FoundLone) -> Result<TickPlan, Memo
 }
 
 // A scope's own participant says its Status or asks for one, and else what its scope came to.
-fn tick_above(node: &Objects, id: Id, found: &FoundUp) -> Result<TickPlan, Memory>
+fn tick_above(node: &Objects, id: Id, found: &FoundUp) -> Result<TickProposal, Memory>
     requires { FindsUp node.now.node id found.now.place found.now.scope.now found.now.part.now }
-    ensures step { IfOk result (λ plan. planned_tick node.now.node plan ≡ tick_upward node.now.node found.now.scope.now found.now.part.now) }
-    ensures suits { IfOk result (λ plan. Suits node.now plan.change) }
+    ensures step { IfOk result (λ proposal. proposed_tick node.now.node proposal ≡ tick_upward node.now.node found.now.scope.now found.now.part.now) }
+    ensures suits { IfOk result (λ proposal. Suits node.now proposal.change) }
 {
     let letter = letter_of_part(node.allocator(), found.part, found.scope.up_says())?;
     let change = Change::Scope(found.place, ScopeChange::UpTick);
     if talks(found.part) {
-        return Ok(TickPlan::changing(letter, id, Wake::Nobody, change));
+        return Ok(TickProposal::changing(letter, id, Wake::Nobody, change));
     }
     if stays_at_tick(found) {
-        return Ok(TickPlan::saying(letter));
+        return Ok(TickProposal::saying(letter));
     }
-    Ok(TickPlan::changing(letter, id, Wake::One(id), change))
+    Ok(TickProposal::changing(letter, id, Wake::One(id), change))
 }
 
 fn stays_at_tick(found: &FoundUp) -> bool

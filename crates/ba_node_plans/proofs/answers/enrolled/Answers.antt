@@ -1,8 +1,8 @@
 use Rattle.std.proofs.Common.{◌≡◌, ◌∙◌}
 use Rattle.ba_core.specs.declared.identifiers.Id.{Id}
 use Rattle.ba_node_objects.specs.Changes.{Suits}
-use Rattle.ba_node_plans.specs.Plans.{planned_step}
-use Rattle.ba_node_plans.specs.declared.plans.Plan.{Plan}
+use Rattle.ba_node_plans.specs.Proposals.{proposed_step}
+use Rattle.ba_node_plans.specs.declared.proposals.Proposal.{Proposal}
 use Rattle.ba_node_objects.specs.Objects.{NodeInMemory}
 use Rattle.ba_node_objects.specs.Finds.{FindsLone, FindsUp}
 use Rattle.ba_node_plans.proofs.Planned.{nothing_suits}
@@ -26,13 +26,13 @@ returns-in-Some c =
     let here : NodeState = m.node in
     let f = c.in-Some.found in
     let e = c.args.coordinator.now in
-    let Step : Plan → Type 0 = λ plan. (n : NodeState) (id : Id) → NodeFits n → FindsLone n id f.place f.part.now → planned_step n plan
+    let Step : Proposal → Type 0 = λ proposal. (n : NodeState) (id : Id) → NodeFits n → FindsLone n id f.place f.part.now → proposed_step n proposal
     ≡ on_enrolled n id e in
-    let Suit : Plan → Type 0 = λ plan. (m : NodeInMemory) (id : Id) → FindsLone m.node id f.place f.part.now → Suits m plan.change in
+    let Suit : Proposal → Type 0 = λ proposal. (m : NodeInMemory) (id : Id) → FindsLone m.node id f.place f.part.now → Suits m proposal.change in
     record {
-      step = at_ok Step (λ plan. planned_step here plan ≡ on_enrolled here c.args.id e) c.lone_enrolled.result
-          (λ plan h. h here c.args.id c.in-Some.ensures.some.node c.in-Some.ensures.some) c.lone_enrolled.ensures.step;
-      suits = at_ok Suit (λ plan. Suits m plan.change) c.lone_enrolled.result (λ plan h. h m c.args.id c.in-Some.ensures.some)
+      step = at_ok Step (λ proposal. proposed_step here proposal ≡ on_enrolled here c.args.id e) c.lone_enrolled.result
+          (λ proposal h. h here c.args.id c.in-Some.ensures.some.node c.in-Some.ensures.some) c.lone_enrolled.ensures.step;
+      suits = at_ok Suit (λ proposal. Suits m proposal.change) c.lone_enrolled.result (λ proposal h. h m c.args.id c.in-Some.ensures.some)
           c.lone_enrolled.ensures.suits;
     }
 
@@ -42,13 +42,13 @@ returns-in-Some-find_up c =
     let here : NodeState = m.node in
     let f = c.in-Some-find_up.found in
     let e = c.args.coordinator.now in
-    let Step : Plan → Type 0 = λ plan. (n : NodeState) (id : Id) → NodeFits n → FindsUp n id f.place f.scope.now f.part.now
-    → planned_step n plan ≡ on_enrolled n id e in
-    let Suit : Plan → Type 0 = λ plan. (m : NodeInMemory) (id : Id)
-    → FindsUp m.node id f.place f.scope.now f.part.now → Suits m plan.change in
+    let Step : Proposal → Type 0 = λ proposal. (n : NodeState) (id : Id) → NodeFits n → FindsUp n id f.place f.scope.now f.part.now
+    → proposed_step n proposal ≡ on_enrolled n id e in
+    let Suit : Proposal → Type 0 = λ proposal. (m : NodeInMemory) (id : Id)
+    → FindsUp m.node id f.place f.scope.now f.part.now → Suits m proposal.change in
     record {
-      step = at_ok Step (λ plan. planned_step here plan ≡ on_enrolled here c.args.id e) c.up_enrolled.result
-          (λ plan h. h here c.args.id c.in-Some-find_up.ensures.some.node c.in-Some-find_up.ensures.some) c.up_enrolled.ensures.step;
-      suits = at_ok Suit (λ plan. Suits m plan.change) c.up_enrolled.result
-          (λ plan h. h m c.args.id c.in-Some-find_up.ensures.some) c.up_enrolled.ensures.suits;
+      step = at_ok Step (λ proposal. proposed_step here proposal ≡ on_enrolled here c.args.id e) c.up_enrolled.result
+          (λ proposal h. h here c.args.id c.in-Some-find_up.ensures.some.node c.in-Some-find_up.ensures.some) c.up_enrolled.ensures.step;
+      suits = at_ok Suit (λ proposal. Suits m proposal.change) c.up_enrolled.result
+          (λ proposal h. h m c.args.id c.in-Some-find_up.ensures.some) c.up_enrolled.ensures.suits;
     }

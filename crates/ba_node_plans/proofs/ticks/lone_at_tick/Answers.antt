@@ -4,8 +4,8 @@ use Rattle.ba_node_objects.specs.Objects.{NodeInMemory}
 use Rattle.ba_node_plans.proofs.Planned.{nothing_suits}
 use Rattle.ba_node_plans.proofs.Registered.{at_ok}
 use Rattle.ba_node_plans.proofs.Ticked.{lone_registered, lone_registers, lone_short}
-use Rattle.ba_node_plans.specs.Plans.{planned_tick}
-use Rattle.ba_node_plans.specs.declared.plans.TickPlan.{TickPlan}
+use Rattle.ba_node_plans.specs.Proposals.{proposed_tick}
+use Rattle.ba_node_plans.specs.declared.proposals.TickProposal.{TickProposal}
 use Rattle.ba_node_steps.specs.Node.{NodeState, lone}
 use Rattle.ba_node_steps.specs.Ticks.{letter_step, tick_at_part, tick_lone}
 use Rattle.ba_node_plans.proofs.ticks.lone_at_tick.Goals as goal
@@ -29,9 +29,9 @@ returns c =
     let n : NodeState = c.args.node.now.node in
     let f = c.args.found.now in
     record {
-      step = at_ok (λ (plan : TickPlan). planned_tick n plan ≡ tick_lone n f.part.now)
-          (λ (plan : TickPlan). planned_tick n plan ≡ tick_at_part n (lone f.part.now)) c.tick_lone.result
-          (λ plan h. h ∙ lone_registered n f.part.now (sym c.is_registering.ensures ∙ c.if-is_registering.false))
+      step = at_ok (λ (proposal : TickProposal). proposed_tick n proposal ≡ tick_lone n f.part.now)
+          (λ (proposal : TickProposal). proposed_tick n proposal ≡ tick_at_part n (lone f.part.now)) c.tick_lone.result
+          (λ proposal h. h ∙ lone_registered n f.part.now (sym c.is_registering.ensures ∙ c.if-is_registering.false))
           c.tick_lone.ensures.step;
       suits = c.tick_lone.ensures.suits;
     }

@@ -4,8 +4,8 @@ use Rattle.ba_node_objects.specs.Objects.{NodeInMemory}
 use Rattle.ba_node_plans.proofs.Planned.{nothing_suits}
 use Rattle.ba_node_plans.proofs.Registered.{at_ok}
 use Rattle.ba_node_plans.proofs.Ticked.{up_registered, up_registers, up_short}
-use Rattle.ba_node_plans.specs.Plans.{planned_tick}
-use Rattle.ba_node_plans.specs.declared.plans.TickPlan.{TickPlan}
+use Rattle.ba_node_plans.specs.Proposals.{proposed_tick}
+use Rattle.ba_node_plans.specs.declared.proposals.TickProposal.{TickProposal}
 use Rattle.ba_node_steps.specs.Node.{NodeState, upward}
 use Rattle.ba_node_steps.specs.Ticks.{letter_step, tick_at_part, tick_upward}
 use Rattle.ba_node_plans.proofs.ticks.up_at_tick.Goals as goal
@@ -29,9 +29,9 @@ returns c =
     let n : NodeState = c.args.node.now.node in
     let f = c.args.found.now in
     record {
-      step = at_ok (λ (plan : TickPlan). planned_tick n plan ≡ tick_upward n f.scope.now f.part.now)
-          (λ (plan : TickPlan). planned_tick n plan ≡ tick_at_part n (upward f.scope.now f.part.now)) c.tick_above.result
-          (λ plan h. h ∙ up_registered n f.scope.now f.part.now (sym c.is_registering.ensures ∙ c.if-is_registering.false))
+      step = at_ok (λ (proposal : TickProposal). proposed_tick n proposal ≡ tick_upward n f.scope.now f.part.now)
+          (λ (proposal : TickProposal). proposed_tick n proposal ≡ tick_at_part n (upward f.scope.now f.part.now)) c.tick_above.result
+          (λ proposal h. h ∙ up_registered n f.scope.now f.part.now (sym c.is_registering.ensures ∙ c.if-is_registering.false))
           c.tick_above.ensures.step;
       suits = c.tick_above.ensures.suits;
     }

@@ -1,7 +1,7 @@
 use Rattle.std.proofs.Common.{IfOk, sym, ap, subst}
 use Rattle.ba_node.specs.Answers.{IsReplyOf}
 use Rattle.ba_node.specs.Nodes.{on_journal}
-use Rattle.ba_node_plans.specs.Plans.{planned_step}
+use Rattle.ba_node_plans.specs.Proposals.{proposed_step}
 use Rattle.ba_node.proofs.Posting.{answerable}
 use Rattle.ba_node.specs.inside.Commits.{Commits, IsDue, due_by_step}
 use Rattle.ba_node_steps.specs.Lawful.{change, given}
@@ -13,7 +13,7 @@ use Rattle.ba_node.proofs.nodes.Node.handle.Given.{Over}
 
 pub take_step-requires-clause-due : goal.take_step-requires-clause-due
 take_step-requires-clause-due g c =
-    subst (λ (k : NodeState). IsDue k (due_by_step (planned_step k c.in-Ok.plan))) (sym c.plan.ensures.node)
+    subst (λ (k : NodeState). IsDue k (due_by_step (proposed_step k c.in-Ok.proposal))) (sym c.propose.ensures.node)
     (record { event = given c.args.now c.args.input; gives = c.requires; is = ap due_by_step (sym c.in-Ok.ensures.step) })
 
 -- the whole of what the step's taking ensures, of this node and this step
@@ -31,8 +31,8 @@ commits_of g c =
     (subst (λ (s : NodeStep). Commits D.follows D.seen D.may_leave D.later D.left_between D.driven D.faults (due_by_step s)
     (on_journal j n) new c.take_step.result) c.in-Ok.ensures.step
     (subst (λ (k : NodeState). Commits D.follows D.seen D.may_leave D.later D.left_between D.driven D.faults
-    (due_by_step (planned_step k c.in-Ok.plan)) (on_journal j k) new c.take_step.result)
-    c.plan.ensures.node c.take_step.ensures.commits))
+    (due_by_step (proposed_step k c.in-Ok.proposal)) (on_journal j k) new c.take_step.result)
+    c.propose.ensures.node c.take_step.ensures.commits))
 
 pub returns-clause-answered : goal.returns-clause-answered
 returns-clause-answered g c = (commits_of g c).answered
@@ -48,5 +48,5 @@ returns-clause-answerable g c =
     let n = c.self.inside.objects.node in
     answerable n c.self.invariant.base c.args.now c.args.input c.asked_time.ensures c.take_step.result
     (subst (λ (s : NodeStep). IfOk c.take_step.result (IsReplyOf s)) c.in-Ok.ensures.step
-    (subst (λ (k : NodeState). IfOk c.take_step.result (IsReplyOf (planned_step k c.in-Ok.plan))) c.plan.ensures.node
+    (subst (λ (k : NodeState). IfOk c.take_step.result (IsReplyOf (proposed_step k c.in-Ok.proposal))) c.propose.ensures.node
     c.take_step.ensures.reply))

@@ -1,7 +1,7 @@
 use Rattle.std.proofs.Common.{List, IfOk, IfSome, IsTrue, sym, ap, subst}
 use Rattle.ba_journal.specs.Journals.{IsSettled}
 use Rattle.ba_node.specs.Keeping.{StandsWith}
-use Rattle.ba_node_plans.specs.Plans.{planned_tick}
+use Rattle.ba_node_plans.specs.Proposals.{proposed_tick}
 use Rattle.ba_node.specs.inside.Commits.{due_by_tick}
 use Rattle.ba_node.proofs.Posting.{postable}
 use Rattle.ba_node.proofs.Sendable.{sendable}
@@ -20,14 +20,14 @@ pub returns-clause-sendable : goal.returns-clause-sendable
 returns-clause-sendable g c =
     subst (λ v. IfOk c.take_tick.result (λ said. IfSome said.letter (IsLetterOf v.node c.args.id))) c.self.view_is
     (sendable c.self.inside.objects.node c.args.now c.args.id
-    (planned_tick c.self.inside.objects.node c.in-Ok.plan) c.take_tick.result c.in-Ok.ensures.step
+    (proposed_tick c.self.inside.objects.node c.in-Ok.proposal) c.take_tick.result c.in-Ok.ensures.step
     c.self.invariant.reachable c.take_tick.ensures.letter)
 
 pub returns-clause-postable : goal.returns-clause-postable
 returns-clause-postable g c =
     let n = c.self.inside.objects.node in
     postable n c.self.invariant.base c.args.id c.take_tick.result
-    (sendable n c.args.now c.args.id (planned_tick n c.in-Ok.plan) c.take_tick.result c.in-Ok.ensures.step
+    (sendable n c.args.now c.args.id (proposed_tick n c.in-Ok.proposal) c.take_tick.result c.in-Ok.ensures.step
     c.self.invariant.reachable c.take_tick.ensures.letter)
 
 pub returns-clause-any_moment : goal.returns-clause-any_moment

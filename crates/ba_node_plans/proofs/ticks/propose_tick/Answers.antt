@@ -3,11 +3,11 @@ use Rattle.ba_node_objects.specs.Objects.{NodeInMemory}
 use Rattle.ba_node_plans.proofs.Registered.{at_ok}
 use Rattle.ba_node_plans.proofs.Planned.{nothing_suits}
 use Rattle.ba_node_plans.proofs.Ticked.{ticks_end, ticks_part, ticks_scope}
-use Rattle.ba_node_plans.specs.Plans.{planned_tick}
-use Rattle.ba_node_plans.specs.declared.plans.TickPlan.{TickPlan}
+use Rattle.ba_node_plans.specs.Proposals.{proposed_tick}
+use Rattle.ba_node_plans.specs.declared.proposals.TickProposal.{TickProposal}
 use Rattle.ba_node_steps.specs.Node.{NodeState, lone, nowhere, upward}
 use Rattle.ba_node_steps.specs.Ticks.{tick_at_end, tick_at_part, tick_step}
-use Rattle.ba_node_plans.proofs.ticks.tick.Goals as goal
+use Rattle.ba_node_plans.proofs.ticks.propose_tick.Goals as goal
 
 pub returns-in-Some : goal.returns-in-Some
 returns-in-Some c =
@@ -23,9 +23,9 @@ returns-in-Some-find_end c =
     let n : NodeState = c.args.node.now.node in
     let f = c.in-Some-find_end.found in
     record {
-      step = at_ok (λ (plan : TickPlan). planned_tick n plan ≡ tick_at_end n f.scope.now f.end.now)
-          (λ (plan : TickPlan). planned_tick n plan ≡ tick_step n c.args.now c.args.id) c.tick_end.result
-          (λ plan h. h ∙ ticks_end n c.args.now c.args.id _ _ _ c.in_default.ensures.none c.in-Some-find_end.ensures.some)
+      step = at_ok (λ (proposal : TickProposal). proposed_tick n proposal ≡ tick_at_end n f.scope.now f.end.now)
+          (λ (proposal : TickProposal). proposed_tick n proposal ≡ tick_step n c.args.now c.args.id) c.tick_end.result
+          (λ proposal h. h ∙ ticks_end n c.args.now c.args.id _ _ _ c.in_default.ensures.none c.in-Some-find_end.ensures.some)
           c.tick_end.ensures.step;
       suits = c.tick_end.ensures.suits;
     }
@@ -35,9 +35,9 @@ returns-in-Some-find_lone c =
     let n : NodeState = c.args.node.now.node in
     let f = c.in-Some-find_lone.found in
     record {
-      step = at_ok (λ (plan : TickPlan). planned_tick n plan ≡ tick_at_part n (lone f.part.now))
-          (λ (plan : TickPlan). planned_tick n plan ≡ tick_step n c.args.now c.args.id) c.lone_at_tick.result
-          (λ plan h. h ∙ ticks_part n c.args.now c.args.id (lone f.part.now) c.in_default.ensures.none
+      step = at_ok (λ (proposal : TickProposal). proposed_tick n proposal ≡ tick_at_part n (lone f.part.now))
+          (λ (proposal : TickProposal). proposed_tick n proposal ≡ tick_step n c.args.now c.args.id) c.lone_at_tick.result
+          (λ proposal h. h ∙ ticks_part n c.args.now c.args.id (lone f.part.now) c.in_default.ensures.none
           c.in_default-find_end.ensures.none c.in-Some-find_lone.ensures.some.placed)
           c.lone_at_tick.ensures.step;
       suits = c.lone_at_tick.ensures.suits;
@@ -57,9 +57,9 @@ returns-in-Some-find_up c =
     let n : NodeState = c.args.node.now.node in
     let f = c.in-Some-find_up.found in
     record {
-      step = at_ok (λ (plan : TickPlan). planned_tick n plan ≡ tick_at_part n (upward f.scope.now f.part.now))
-          (λ (plan : TickPlan). planned_tick n plan ≡ tick_step n c.args.now c.args.id) c.up_at_tick.result
-          (λ plan h. h ∙ ticks_part n c.args.now c.args.id (upward f.scope.now f.part.now) c.in_default.ensures.none
+      step = at_ok (λ (proposal : TickProposal). proposed_tick n proposal ≡ tick_at_part n (upward f.scope.now f.part.now))
+          (λ (proposal : TickProposal). proposed_tick n proposal ≡ tick_step n c.args.now c.args.id) c.up_at_tick.result
+          (λ proposal h. h ∙ ticks_part n c.args.now c.args.id (upward f.scope.now f.part.now) c.in_default.ensures.none
           c.in_default-find_end.ensures.none c.in-Some-find_up.ensures.some.placed)
           c.up_at_tick.ensures.step;
       suits = c.up_at_tick.ensures.suits;

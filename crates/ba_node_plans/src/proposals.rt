@@ -1,7 +1,7 @@
 //! What an input and a tick are to make of a node.
 ghost use Rattle.std.specs.Prelude.{◌≡◌};
 ghost use Rattle.ba_node_objects.specs.Changes.{changed_node};
-ghost use Rattle.ba_node_plans.specs.Plans.{planned_step, planned_tick};
+ghost use Rattle.ba_node_plans.specs.Proposals.{proposed_step, proposed_tick};
 ghost use Rattle.ba_node_steps.specs.Node.{NodeState};
 ghost use Rattle.ba_node_steps.specs.Steps.{accepted_step, again_step, fault_step, refusal_step, reply_step, written_step};
 ghost use Rattle.ba_node_steps.specs.Ticks.{letter_step, ticked_step};
@@ -14,7 +14,7 @@ use ba_record::Record;
 
 /// What an input is to make of a node. All its memory is taken.
 #[derive(Debug, Drop)]
-pub struct Plan {
+pub struct Proposal {
     pub reply: Reply,
     pub wake: Wake,
     /// What the node keeps of it first; none where nothing changes.
@@ -22,13 +22,13 @@ pub struct Plan {
     pub change: Change,
 }
 
-impl Plan {
+impl Proposal {
     /// Nothing changes.
-    pub(crate) fn only(reply: Reply) -> Plan
-        ensures step { (n : NodeState) → planned_step n result ≡ reply_step n reply }
+    pub(crate) fn only(reply: Reply) -> Proposal
+        ensures step { (n : NodeState) → proposed_step n result ≡ reply_step n reply }
         ensures change { result.change ≡ Change.Nothing }
     {
-        Plan {
+        Proposal {
             reply,
             wake: Wake::Nobody,
             written: None,
@@ -37,35 +37,35 @@ impl Plan {
     }
 
     /// It is accepted, and nothing changes.
-    pub(crate) fn accepted() -> Plan
-        ensures step { (n : NodeState) → planned_step n result ≡ accepted_step n }
+    pub(crate) fn accepted() -> Proposal
+        ensures step { (n : NodeState) → proposed_step n result ≡ accepted_step n }
         ensures change { result.change ≡ Change.Nothing }
     {
-        Plan::only(Reply::Accepted)
+        Proposal::only(Reply::Accepted)
     }
 
     /// It is answered with a fault.
-    pub(crate) fn fault(code: Code) -> Plan
-        ensures step { (n : NodeState) → planned_step n result ≡ fault_step n code }
+    pub(crate) fn fault(code: Code) -> Proposal
+        ensures step { (n : NodeState) → proposed_step n result ≡ fault_step n code }
         ensures change { result.change ≡ Change.Nothing }
     {
-        Plan::only(Reply::SoapFault(code))
+        Proposal::only(Reply::SoapFault(code))
     }
 
     /// It is refused by this number, and this object shows it.
-    pub(crate) fn refused(number: u8, id: Id) -> Plan
-        ensures step { (n : NodeState) → planned_step n result ≡ refusal_step n number id }
+    pub(crate) fn refused(number: u8, id: Id) -> Proposal
+        ensures step { (n : NodeState) → proposed_step n result ≡ refusal_step n number id }
         ensures change { result.change ≡ Change.Nothing }
     {
-        Plan::only(Reply::Refused(number, id))
+        Proposal::only(Reply::Refused(number, id))
     }
 
     /// It is accepted, and nothing changes; the object with this identifier may have something to say again.
-    pub(crate) fn again(id: Id, prompt: bool) -> Plan
-        ensures step { (n : NodeState) → planned_step n result ≡ again_step n id prompt }
+    pub(crate) fn again(id: Id, prompt: bool) -> Proposal
+        ensures step { (n : NodeState) → proposed_step n result ≡ again_step n id prompt }
         ensures change { result.change ≡ Change.Nothing }
     {
-        Plan {
+        Proposal {
             reply: Reply::Accepted,
             wake: if prompt { Wake::One(id) } else { Wake::Nobody },
             written: None,
@@ -74,11 +74,11 @@ impl Plan {
     }
 
     /// It is accepted, and this changes.
-    pub(crate) fn kept(written: Record, wake: Wake, change: Change) -> Plan
-        ensures step { (n : NodeState) → planned_step n result ≡ written_step (changed_node n change) Reply.Accepted written wake }
+    pub(crate) fn kept(written: Record, wake: Wake, change: Change) -> Proposal
+        ensures step { (n : NodeState) → proposed_step n result ≡ written_step (changed_node n change) Reply.Accepted written wake }
         ensures change { result.change ≡ change }
     {
-        Plan {
+        Proposal {
             reply: Reply::Accepted,
             wake,
             written: Some(written),
@@ -89,7 +89,7 @@ impl Plan {
 
 /// What a tick is to make of a node. All its memory is taken.
 #[derive(Debug, Drop)]
-pub struct TickPlan {
+pub struct TickProposal {
     pub letter: Option<Letter>,
     pub wake: Wake,
     /// What the node keeps of it first; none where nothing changes.
@@ -97,13 +97,13 @@ pub struct TickPlan {
     pub change: Change,
 }
 
-impl TickPlan {
+impl TickProposal {
     /// Nothing changes, and this letter is sent, or none.
-    pub(crate) fn saying(letter: Option<Letter>) -> TickPlan
-        ensures step { (n : NodeState) → planned_tick n result ≡ letter_step n letter }
+    pub(crate) fn saying(letter: Option<Letter>) -> TickProposal
+        ensures step { (n : NodeState) → proposed_tick n result ≡ letter_step n letter }
         ensures change { result.change ≡ Change.Nothing }
     {
-        TickPlan {
+        TickProposal {
             letter,
             wake: Wake::Nobody,
             written: None,
@@ -112,11 +112,16 @@ impl TickPlan {
     }
 
     /// This changes as the object with this identifier ticks.
-    pub(crate) fn changing(letter: Option<Letter>, id: Id, wake: Wake, change: Change) -> TickPlan
-        ensures step { (n : NodeState) → planned_tick n result ≡ ticked_step (changed_node n change) letter id wake }
+    pub(crate) fn changing(
+        letter: Option<Letter>,
+        id: Id,
+        wake: Wake,
+        change: Change,
+    ) -> TickProposal
+        ensures step { (n : NodeState) → proposed_tick n result ≡ ticked_step (changed_node n change) letter id wake }
         ensures change { result.change ≡ change }
     {
-        TickPlan {
+        TickProposal {
             letter,
             wake,
             written: Some(Record::Ticked(id.counter())),
