@@ -28,8 +28,8 @@ use Rattle.ba_node_steps.proofs.NodeKept.{id_kept}
 use Rattle.ba_node_steps.proofs.Own.{SameOwn, choose_own, complete_own, decide_own}
 use Rattle.ba_node_steps.specs.Fits.{NodeFits}
 use Rattle.ba_node_steps.specs.Node.{EndPlace, NodeState, counter, end_place, scope_with_id, with_lone, with_scope}
-use Rattle.ba_node_steps.specs.Steps.{NodeStep, choice_number, complete_number, if_found, on_choose, on_complete, on_decide, on_finish, on_leave}
-use Rattle.ba_node_steps.specs.Steps.{refusal_step, rule_step, up_act_step, wake_of_choice, written_step}
+use Rattle.ba_node_steps.specs.Steps.{NodeStep, choice_number, complete_number, if_found, on_choose, on_complete, on_decide, on_finish}
+use Rattle.ba_node_steps.specs.Steps.{on_leave, refusal_step, rule_step, up_act_step, wake_of_choice, written_step}
 use Rattle.ba_node_steps.specs.declared.answers.Reply.TheVariants as reply
 use Rattle.ba_core.specs.declared.refusals.TheConstants.{NO_SUCH_SCOPE}
 use Rattle.ba_node_steps.specs.declared.answers.Wake.{Wake}

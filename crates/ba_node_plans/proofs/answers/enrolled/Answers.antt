@@ -26,9 +26,10 @@ returns-in-Some c =
     let here : NodeState = m.node in
     let f = c.in-Some.found in
     let e = c.args.coordinator.now in
-    let Step : Proposal → Type 0 = λ proposal. (n : NodeState) (id : Id) → NodeFits n → FindsLone n id f.place f.part.now → proposed_step n proposal
-    ≡ on_enrolled n id e in
-    let Suit : Proposal → Type 0 = λ proposal. (m : NodeInMemory) (id : Id) → FindsLone m.node id f.place f.part.now → Suits m proposal.change in
+    let Step : Proposal → Type 0 = λ proposal. (n : NodeState) (id : Id) → NodeFits n → FindsLone n id f.place f.part.now
+    → proposed_step n proposal ≡ on_enrolled n id e in
+    let Suit : Proposal → Type 0 = λ proposal. (m : NodeInMemory) (id : Id) → FindsLone m.node id f.place f.part.now
+    → Suits m proposal.change in
     record {
       step = at_ok Step (λ proposal. proposed_step here proposal ≡ on_enrolled here c.args.id e) c.lone_enrolled.result
           (λ proposal h. h here c.args.id c.in-Some.ensures.some.node c.in-Some.ensures.some) c.lone_enrolled.ensures.step;
