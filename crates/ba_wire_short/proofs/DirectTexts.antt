@@ -14,22 +14,22 @@ use Rattle.ba_wire_limits.specs.Replies.{reply_route}
 use Rattle.ba_soap_shapes.specs.Endpoints.{bare_element, endpoint_element, wsa_name}
 use Rattle.ba_soap.specs.declared.headers.Header.{Header}
 use Rattle.ba_soap.specs.declared.headers.Header.TheVariants as header
-use Rattle.ba_soap.specs.Elements.{soap_element, text_block}
+use Rattle.ba_soap.specs.Elements.{endpoint_block, none_endpoint, soap_element, source_blocks, text_block}
 use Rattle.ba_soap.specs.Envelopes.{header_name, soap11}
 use Rattle.ba_tree.specs.declared.trees.Name.{Name}
 use Rattle.ba_tree.specs.declared.trees.Tree.{Tree}
 use Rattle.ba_tree.specs.declared.trees.Content.TheVariants.{Child, Text}
 use Rattle.ba_wire.specs.Elements.{body_element, protocol_uri, text_in_element, wsba_name, wscoor_name}
-use Rattle.ba_wire.specs.Envelopes.{action_for, envelope_text}
+use Rattle.ba_wire.specs.Envelopes.{action_for, envelope_text, notice_tree}
 use Rattle.ba_xml_writer.proofs.Children.{child_text}
 use Rattle.ba_xml_writer.specs.Namespaces.{Declaration, declared, is_further, text_scope, xml_space, soap_space, wsa_space, wscoor_space}
 use Rattle.ba_xml_writer.specs.Namespaces.{wsba_space}
 use Rattle.ba_xml_writer.specs.OneText.{declaration_texts, ending, escaped, is_empty, items, qualified, root_text, spelled, text_escapes}
-use Rattle.ba_xml_writer.specs.OneText.{tree_text}
+use Rattle.ba_xml_writer.specs.OneText.{one_text, tree_text}
 use Rattle.ba_wire_short.specs.declared.pieces.TheConstants as piece
 use Rattle.ba_wire_short.proofs.NoFurther.{AllHaveNone, HasNone, and_more, element_has_none, none_further, text_has_none}
 use Rattle.ba_wire_short.specs.inside.Texts.{action_text, before_participant, body_text, has_none, is_direct, is_direct_endpoint, is_itself}
-use Rattle.ba_wire_short.specs.inside.Texts.{is_unescaped, letter_route, letter_text, reply_text}
+use Rattle.ba_wire_short.specs.inside.Texts.{is_unescaped, letter_pieces, letter_route, notice_pieces, reply_pieces}
 
 -- ---- bytes that are written as themselves
 
@@ -138,6 +138,48 @@ reply_around : (action related : List ℕ) (body : Tree)
 unfolding xml_space soap_space wsa_space wscoor_space wsba_space
 reply_around action related body = refl
 
+-- ---- letters of notices
+
+-- an endpoint reference without parameters
+abbrev own : List ℕ → Epr
+own address = record { address = address; parameters = [] }
+
+abbrev address_tree : List ℕ → Tree
+address_tree address = bare_element (wsa_name (codes "Address")) (Text address ∷ [])
+
+abbrev notice_blocks : List ℕ → List ℕ → List ℕ → List ℕ → List Tree
+notice_blocks source to action number =
+    text_block header.To to ∷ text_block header.Action action ∷ text_block header.MessageID number ∷ source_blocks (own source)
+
+-- the Header of a letter, where two blocks more put these texts before what follows
+abbrev header_with : List ℕ → List ℕ → List ℕ → (List ℕ → List ℕ) → (List ℕ → List ℕ) → List ℕ → List ℕ
+header_with to action number from wanted rest =
+    codes "<" ++ qualified scope (soap_name (codes "Header")) (ending scope (soap_name (codes "Header")) false
+    (λ more. trees_text (letter_blocks to action number) (from (wanted more))) rest)
+
+header_is : (source to action number rest : List ℕ)
+    → of_trees [] (soap_name (codes "Header")) (notice_blocks source to action number) rest
+    ≡ header_with to action number (of_trees [] (wsa_name (codes "From")) (address_tree source ∷ []))
+    (of_trees [] (wsa_name (codes "ReplyTo")) (address_tree none_endpoint.address ∷ [])) rest
+header_is source to action number rest =
+    λ i. header_with to action number (λ more. element_text [] (wsa_name (codes "From")) (address_tree source ∷ []) more i)
+    (λ more. element_text [] (wsa_name (codes "ReplyTo")) (address_tree none_endpoint.address ∷ []) more i) rest
+
+abbrev escaped_notice : List ℕ → List ℕ → List ℕ → List ℕ → (List ℕ → List ℕ) → List ℕ
+escaped_notice source to action number body =
+    piece.ENVELOPE.now
+    ++ (piece.TO.now ++ escaped text_escapes to (piece.TO_ACTION.now ++ escaped text_escapes action (piece.ACTION_NUMBER.now
+    ++ escaped text_escapes number (piece.NUMBER_SOURCE.now ++ escaped text_escapes source (piece.SOURCE_BODY.now
+    ++ body (piece.END.now ++ []))))))
+
+notice_around : (source to action number : List ℕ) (body : Tree)
+    → around (header_with to action number (of_trees [] (wsa_name (codes "From")) (address_tree source ∷ []))
+    (of_trees [] (wsa_name (codes "ReplyTo")) (address_tree none_endpoint.address ∷ [])))
+    (of_trees [] (soap_name (codes "Body")) (body ∷ []))
+    ≡ escaped_notice source to action number (tree_text scope [] body)
+unfolding xml_space soap_space wsa_space wscoor_space wsba_space
+notice_around source to action number body = refl
+
 -- ---- bodies
 
 notice_put : (local rest : List ℕ) → tree_text scope [] (bare_element (wsba_name local) []) rest
@@ -153,13 +195,6 @@ fail_put : (rest : List ℕ) → of_trees [] (wsba_name (codes "Fail")) (excepti
     ≡ piece.FAIL.now ++ rest
 unfolding xml_space soap_space wsa_space wscoor_space wsba_space
 fail_put rest = refl
-
--- an endpoint reference without parameters
-abbrev own : List ℕ → Epr
-own address = record { address = address; parameters = [] }
-
-abbrev address_tree : List ℕ → Tree
-address_tree address = bare_element (wsa_name (codes "Address")) (Text address ∷ [])
 
 abbrev participant_name : Name
 participant_name = wscoor_name (codes "ParticipantProtocolService")
@@ -377,7 +412,7 @@ envelope_plain blocks body above inside =
     (and_more around_body [] (element_has_none (soap_name (codes "Body")) (body ∷ []) soap_fixed (and_more body [] inside refl)) refl))
 
 pub letter_is : (to number : List ℕ) (m : Message) → is_direct m ≡ true → is_unescaped to ≡ true → is_unescaped number ≡ true
-    → envelope_text (letter_route to number) m ≡ letter_text to number m []
+    → envelope_text (letter_route to number) m ≡ letter_pieces to number m []
 letter_is to number m direct to_stands number_stands =
     let put = is_put m direct in
     let blocks = letter_blocks to (action_for m) number in
@@ -401,7 +436,7 @@ letter_is to number m direct to_stands number_stands =
     (as_it_stands number body number_stands ∙ ap (λ l. number ++ (piece.NUMBER_BODY.now ++ l)) (put.body_put rest))))
 
 pub reply_is : (related : List ℕ) (m : Message) → is_direct m ≡ true → is_unescaped related ≡ true
-    → envelope_text (reply_route (Some related)) m ≡ reply_text related m []
+    → envelope_text (reply_route (Some related)) m ≡ reply_pieces related m []
 reply_is related m direct stands =
     let put = is_put m direct in
     let blocks = reply_blocks (action_for m) related in
@@ -419,3 +454,45 @@ reply_is related m direct stands =
     (as_it_stands (action_for m) id put.action ∙ put.action_put id
     ∙ ap (λ l. action_text m (piece.ACTION_RELATED.now ++ l))
     (as_it_stands related body stands ∙ ap (λ l. related ++ (piece.RELATED_BODY.now ++ l)) (put.body_put rest)))
+
+pub notice_is : (source : Epr) (to number : List ℕ) (m : Message) → source.parameters ≡ [] → is_direct m ≡ true
+    → is_unescaped source.address ≡ true → is_unescaped to ≡ true → is_unescaped number ≡ true
+    → one_text (notice_tree source (letter_route to number) m) ≡ notice_pieces source.address to number m []
+notice_is source to number m alone direct source_stands to_stands number_stands =
+    let put = is_put m direct in
+    let from = source.address in
+    let blocks = notice_blocks from to (action_for m) number in
+    let rest = piece.END.now ++ [] in
+    let body = piece.SOURCE_BODY.now ++ tree_text scope [] (body_element m) rest in
+    let whose = piece.NUMBER_SOURCE.now ++ escaped text_escapes from body in
+    let id = piece.ACTION_NUMBER.now ++ escaped text_escapes number whose in
+    let same : source ≡ own from = λ i. record { address = from; parameters = alone i } in
+    ap (λ (e : Epr). one_text (notice_tree e (letter_route to number) m)) same
+    ∙ ap (λ f. root_text f (envelope blocks (body_element m)))
+    (none_further (envelope blocks (body_element m)) (envelope_plain blocks (body_element m) (blocks_plain from to (action_for m) number)
+    put.body_plain))
+    ∙ envelope_is blocks (body_element m)
+    ∙ (λ i. around (λ more. header_is from to (action_for m) number more i) (of_trees [] (soap_name (codes "Body")) (body_element m ∷ [])))
+    ∙ notice_around from to (action_for m) number (body_element m)
+    ∙ ap (λ l. piece.ENVELOPE.now ++ (piece.TO.now ++ l))
+    (as_it_stands to (piece.TO_ACTION.now ++ escaped text_escapes (action_for m) id) to_stands
+    ∙ ap (λ l. to ++ (piece.TO_ACTION.now ++ l))
+    (as_it_stands (action_for m) id put.action ∙ put.action_put id
+    ∙ ap (λ l. action_text m (piece.ACTION_NUMBER.now ++ l))
+    (as_it_stands number whose number_stands
+    ∙ ap (λ l. number ++ (piece.NUMBER_SOURCE.now ++ l))
+    (as_it_stands from body source_stands ∙ ap (λ l. from ++ (piece.SOURCE_BODY.now ++ l)) (put.body_put rest)))))
+  where
+    blocks_plain : (from to action number : List ℕ) → AllHaveNone (notice_blocks from to action number)
+    blocks_plain from to action number =
+        let whose = endpoint_block header.From (own from) in
+        let wanted = endpoint_block header.ReplyTo none_endpoint in
+        let id = text_block header.MessageID number in
+        let acted = text_block header.Action action in
+        let last : AllHaveNone (wanted ∷ []) =
+        and_more wanted [] (endpoint_plain (wsa_name (header_name header.ReplyTo)) none_endpoint.address wsa_fixed) refl in
+        let sourced : AllHaveNone (whose ∷ wanted ∷ []) =
+        and_more whose (wanted ∷ []) (endpoint_plain (wsa_name (header_name header.From)) from wsa_fixed) last in
+        let numbered = and_more id (whose ∷ wanted ∷ []) (block_plain header.MessageID number) sourced in
+        and_more (text_block header.To to) (acted ∷ id ∷ whose ∷ wanted ∷ []) (block_plain header.To to)
+        (and_more acted (id ∷ whose ∷ wanted ∷ []) (block_plain header.Action action) numbered)

@@ -9,6 +9,7 @@ use Rattle.ba_message.specs.declared.messages.Message.{Message}
 use Rattle.ba_message.specs.declared.messages.Message.TheVariants as message
 use Rattle.ba_wire_limits.proofs.EncodedReplies.{reply_can_be_encoded}
 use Rattle.ba_wire_limits.proofs.NumberUrns.{urn_length, urn_plain}
+use Rattle.ba_wire_limits.proofs.PostedLetters as posted
 use Rattle.ba_tree.specs.declared.trees.Tree.{Tree}
 use Rattle.ba_wire.specs.Contexts.{TimeFits}
 use Rattle.ba_wire.specs.Elements.{body_of_message}
@@ -17,23 +18,13 @@ use Rattle.ba_wire.specs.Meaning.{asks_for_reply}
 use Rattle.ba_wire.specs.Routes.{number_urn, route_of}
 use Rattle.ba_wire.specs.declared.routes.Route.{Route}
 
--- ---- letters
+-- ---- letters, as the laws on them have it
 
-or_so : (b : Bool) → (b || true) ≡ true
-or_so true = refl
-or_so false = refl
-
--- a letter has its number
 pub letter_numbered : (l : Letter) → IsTrue (is_numbered (route_of l) l.message)
-letter_numbered l = or_so (not (asks_for_reply (body_of_message l.message)))
+letter_numbered = posted.letter_numbered
 
 pub postable_times : (m : Message) → IsPostableMessage m → TimesFit m
-postable_times (message.Create expires current kind up) p = absurd p
-postable_times (message.Created context) p = absurd p
-postable_times (message.Register protocol participant) p = tt
-postable_times (message.Registered coordinator) p = tt
-postable_times (message.Notice n) p = tt
-postable_times (message.Fault c) p = tt
+postable_times = posted.postable_times
 
 -- ---- replies
 

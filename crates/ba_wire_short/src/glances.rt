@@ -3,8 +3,8 @@ ghost use Rattle.std.specs.Prelude.{IsTrue};
 ghost use Rattle.ba_message.specs.Letters.{IsOwnEndpoint, IsPostable, IsPostableMessage, IsReply};
 
 use crate::pieces::{
-    ACTION, ACTION_NUMBER, ACTION_RELATED, ENVELOPE, FAIL, NOTICE, NUMBER_BODY, REGISTER_CC,
-    REGISTER_PC, REGISTERED, RELATED_BODY, TO, TO_ACTION,
+    ACTION, ACTION_NUMBER, ACTION_RELATED, ENVELOPE, FAIL, NOTICE, NUMBER_BODY, NUMBER_SOURCE,
+    REGISTER_CC, REGISTER_PC, REGISTERED, RELATED_BODY, SOURCE_BODY, TO, TO_ACTION,
 };
 use ba_core::{Id, List, Memory, Notice, Octets, Protocol, name_of};
 use ba_message::{Epr, Letter, Message, dialable};
@@ -15,6 +15,8 @@ use uuid::Uuid;
 #[derive(Debug, Drop)]
 pub enum Glance {
     Letter(Letter),
+    /// The letter of a notice from this endpoint.
+    Notice(Epr, Letter),
     /// The reply to the letter with this number.
     Reply(Id, Message),
 }
@@ -39,17 +41,49 @@ fn letter_in(alloc: Global, rest: &[u8]) -> Result<Option<Glance>, Memory> {
         return Ok(None);
     };
     let (_, rest) = up_to_tag(rest);
+    if let Some((number, rest)) = number_in(rest, ACTION_NUMBER, NUMBER_SOURCE) {
+        return notice_letter_in(alloc, address, number, rest);
+    }
     let Some((number, body)) = number_in(rest, ACTION_NUMBER, NUMBER_BODY) else {
         return Ok(None);
     };
+    match letter_with(alloc, address, number, body)? {
+        Some(letter) => Ok(Some(Glance::Letter(letter))),
+        None => Ok(None),
+    }
+}
+
+fn notice_letter_in(
+    alloc: Global,
+    address: &[u8],
+    number: Id,
+    rest: &[u8],
+) -> Result<Option<Glance>, Memory> {
+    let (source, rest) = up_to_tag(rest);
+    let Some(body) = rest.strip_prefix(SOURCE_BODY) else {
+        return Ok(None);
+    };
+    match letter_with(alloc, address, number, body)? {
+        Some(letter) => Ok(Some(Glance::Notice(endpoint(alloc, source)?, letter))),
+        None => Ok(None),
+    }
+}
+
+// The letter to this address with this number and this body.
+fn letter_with(
+    alloc: Global,
+    address: &[u8],
+    number: Id,
+    body: &[u8],
+) -> Result<Option<Letter>, Memory> {
     let Some(message) = message_in(alloc, body)? else {
         return Ok(None);
     };
-    Ok(Some(Glance::Letter(Letter {
+    Ok(Some(Letter {
         to: endpoint(alloc, address)?,
         number,
         message,
-    })))
+    }))
 }
 
 fn reply_in(alloc: Global, rest: &[u8]) -> Result<Option<Glance>, Memory> {
@@ -151,7 +185,8 @@ fn notice_in(rest: &[u8]) -> Option<Message> {
 
 // ---- what a node may have sent
 
-fn is_own(endpoint: &Epr) -> bool
+/// Whether an endpoint is one as nodes have them.
+pub fn is_own(endpoint: &Epr) -> bool
     ensures { IsTrue result → IsOwnEndpoint endpoint.now }
 {
     endpoint.parameters.is_empty() && dialable(endpoint.address.as_slice())

@@ -6,4 +6,4 @@ mod glances;
 mod pieces;
 mod texts;
 
-pub use codec::{decode, encode};
+pub use codec::{decode, encode, encode_letter};

@@ -22,6 +22,13 @@ pub const ACTION_RELATED: &[u8] = b"</wsa:Action><wsa:RelatesTo>";
 /// Between the number of a letter and its body.
 pub const NUMBER_BODY: &[u8] = b"</wsa:MessageID></soap:Header><soap:Body>";
 
+/// Between the number of a notice and the address of the endpoint whose it is.
+pub const NUMBER_SOURCE: &[u8] = b"</wsa:MessageID><wsa:From><wsa:Address>";
+
+/// Between that address and the body: no reply is wanted.
+pub const SOURCE_BODY: &[u8] =
+    b"</wsa:Address></wsa:From><wsa:ReplyTo><wsa:Address>http://www.w3.org/2005/08/addressing/none</wsa:Address></wsa:ReplyTo></soap:Header><soap:Body>";
+
 /// Between the number of the letter that a reply answers and its body.
 pub const RELATED_BODY: &[u8] = b"</wsa:RelatesTo></soap:Header><soap:Body>";
 

@@ -1,11 +1,13 @@
 //! Canonical texts of letters and replies, put piece by piece.
 ghost use Rattle.std.specs.Prelude.{◌≡◌, ◌++◌, ℕ, List, [], IfOk, OnOk};
-ghost use Rattle.ba_wire_short.specs.inside.Texts.{action_text, before_participant, body_text, is_direct, is_direct_endpoint, is_itself, is_unescaped, letter_text, notice_text, reply_text};
+ghost use Rattle.ba_wire_short.specs.declared.pieces.TheConstants as piece;
+ghost use Rattle.ba_wire_short.specs.inside.Texts.{action_text, before_participant, body_text, is_direct, is_direct_endpoint, is_itself, is_unescaped, letter_pieces, notice_pieces, notice_text, reply_pieces};
 
 use crate::pieces::{
     ACTION, ACTION_NUMBER, ACTION_OF_NOTICES, ACTION_OF_REGISTER, ACTION_OF_REGISTERED,
-    ACTION_RELATED, END, ENVELOPE, FAIL, NOTICE, NOTICE_END, NUMBER_BODY, REGISTER_CC,
-    REGISTER_END, REGISTER_PC, REGISTERED, REGISTERED_END, RELATED_BODY, TO, TO_ACTION,
+    ACTION_RELATED, END, ENVELOPE, FAIL, NOTICE, NOTICE_END, NUMBER_BODY, NUMBER_SOURCE,
+    REGISTER_CC, REGISTER_END, REGISTER_PC, REGISTERED, REGISTERED_END, RELATED_BODY, SOURCE_BODY,
+    TO, TO_ACTION,
 };
 use ba_core::{List, Memory, Notice, Octets, Protocol, name_of};
 use ba_message::{Epr, Message};
@@ -122,7 +124,7 @@ fn put_body(text: &mut Octets, message: &Message) -> Result<(), Memory>
 }
 
 fn put_letter(text: &mut Octets, to: &[u8], number: &[u8], message: &Message) -> Result<(), Memory>
-    ensures { OnOk result ((rest : List ℕ) → text.new ++ rest ≡ text.old ++ letter_text to.now number.now message.now rest) }
+    ensures { OnOk result ((rest : List ℕ) → text.new ++ rest ≡ text.old ++ letter_pieces to.now number.now message.now rest) }
 {
     put(text, ENVELOPE)?;
     put_between(text, TO, to, TO_ACTION)?;
@@ -132,8 +134,34 @@ fn put_letter(text: &mut Octets, to: &[u8], number: &[u8], message: &Message) ->
     put(text, END)
 }
 
+fn put_number_and_source(text: &mut Octets, number: &[u8], source: &[u8]) -> Result<(), Memory>
+    ensures { OnOk result ((rest : List ℕ) → text.new ++ rest ≡ text.old
+        ++ (piece.ACTION_NUMBER.now ++ (number.now ++ (piece.NUMBER_SOURCE.now ++ (source.now ++ (piece.SOURCE_BODY.now ++ rest)))))) }
+{
+    put(text, ACTION_NUMBER)?;
+    put(text, number)?;
+    put_between(text, NUMBER_SOURCE, source, SOURCE_BODY)
+}
+
+fn put_notice_letter(
+    text: &mut Octets,
+    source: &[u8],
+    to: &[u8],
+    number: &[u8],
+    message: &Message,
+) -> Result<(), Memory>
+    ensures { OnOk result ((rest : List ℕ) → text.new ++ rest ≡ text.old ++ notice_pieces source.now to.now number.now message.now rest) }
+{
+    put(text, ENVELOPE)?;
+    put_between(text, TO, to, TO_ACTION)?;
+    put_action(text, message)?;
+    put_number_and_source(text, number, source)?;
+    put_body(text, message)?;
+    put(text, END)
+}
+
 fn put_reply(text: &mut Octets, related: &[u8], message: &Message) -> Result<(), Memory>
-    ensures { OnOk result ((rest : List ℕ) → text.new ++ rest ≡ text.old ++ reply_text related.now message.now rest) }
+    ensures { OnOk result ((rest : List ℕ) → text.new ++ rest ≡ text.old ++ reply_pieces related.now message.now rest) }
 {
     put(text, ENVELOPE)?;
     put(text, ACTION)?;
@@ -159,16 +187,31 @@ pub fn letter_text(
     number: &[u8],
     message: &Message,
 ) -> Result<Octets, Memory>
-    ensures { IfOk result (λ text. text ≡ letter_text to.now number.now message.now []) }
+    ensures { IfOk result (λ text. text ≡ letter_pieces to.now number.now message.now []) }
 {
     let mut text = page(alloc)?;
     put_letter(&mut text, to, number, message)?;
     Ok(text)
 }
 
+/// The canonical text of the letter of a notice from one address to another, with this number, whose body is put here.
+pub fn notice_letter_text(
+    alloc: Global,
+    source: &[u8],
+    to: &[u8],
+    number: &[u8],
+    message: &Message,
+) -> Result<Octets, Memory>
+    ensures { IfOk result (λ text. text ≡ notice_pieces source.now to.now number.now message.now []) }
+{
+    let mut text = page(alloc)?;
+    put_notice_letter(&mut text, source, to, number, message)?;
+    Ok(text)
+}
+
 /// The canonical text of a reply to the letter with this number, whose body is put here.
 pub fn reply_text(alloc: Global, related: &[u8], message: &Message) -> Result<Octets, Memory>
-    ensures { IfOk result (λ text. text ≡ reply_text related.now message.now []) }
+    ensures { IfOk result (λ text. text ≡ reply_pieces related.now message.now []) }
 {
     let mut text = page(alloc)?;
     put_reply(&mut text, related, message)?;

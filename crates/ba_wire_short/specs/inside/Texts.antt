@@ -62,17 +62,25 @@ body_text (message.Registered coordinator) rest =
     piece.REGISTERED.now ++ (coordinator.address ++ (piece.REGISTERED_END.now ++ rest))
 body_text m rest = rest
 
-abbrev pub letter_text : List ℕ → List ℕ → Message → List ℕ → List ℕ
-letter_text to number m rest =
+abbrev pub letter_pieces : List ℕ → List ℕ → Message → List ℕ → List ℕ
+letter_pieces to number m rest =
     piece.ENVELOPE.now
     ++ (piece.TO.now ++ (to ++ (piece.TO_ACTION.now
     ++ action_text m (piece.ACTION_NUMBER.now ++ (number ++ (piece.NUMBER_BODY.now ++ body_text m (piece.END.now ++ rest)))))))
 
-abbrev pub reply_text : List ℕ → Message → List ℕ → List ℕ
-reply_text related m rest =
+abbrev pub reply_pieces : List ℕ → Message → List ℕ → List ℕ
+reply_pieces related m rest =
     piece.ENVELOPE.now
     ++ (piece.ACTION.now
     ++ action_text m (piece.ACTION_RELATED.now ++ (related ++ (piece.RELATED_BODY.now ++ body_text m (piece.END.now ++ rest)))))
+
+-- the letter of a notice from an endpoint without parameters
+abbrev pub notice_pieces : List ℕ → List ℕ → List ℕ → Message → List ℕ → List ℕ
+notice_pieces source to number m rest =
+    piece.ENVELOPE.now
+    ++ (piece.TO.now ++ (to ++ (piece.TO_ACTION.now
+    ++ action_text m (piece.ACTION_NUMBER.now ++ (number ++ (piece.NUMBER_SOURCE.now ++ (source ++ (piece.SOURCE_BODY.now
+    ++ body_text m (piece.END.now ++ rest)))))))))
 
 -- the route of a letter to an endpoint without parameters
 abbrev pub letter_route : List ℕ → List ℕ → Route
@@ -80,8 +88,16 @@ letter_route to number = record { to = Some to; message_id = Some number; relate
 
 -- this is the text that is put of a letter, of which nothing is escaped
 abbrev pub IsDirectLetter : List ℕ → List ℕ → Message → List ℕ → Type 0
-IsDirectLetter to number m text = (text ≡ letter_text to number m []) × IsTrue (is_unescaped to) × IsTrue (is_unescaped number)
+IsDirectLetter to number m text = (text ≡ letter_pieces to number m []) × IsTrue (is_unescaped to) × IsTrue (is_unescaped number)
 
 -- this is the text that is put of a reply, of which nothing is escaped
 abbrev pub IsDirectReply : List ℕ → Message → List ℕ → Type 0
-IsDirectReply related m text = (text ≡ reply_text related m []) × IsTrue (is_unescaped related)
+IsDirectReply related m text = (text ≡ reply_pieces related m []) × IsTrue (is_unescaped related)
+
+-- this is the text that is put of a notice's letter, of which nothing is escaped
+abbrev pub IsDirectNotice : List ℕ → List ℕ → List ℕ → Message → List ℕ → Type 0
+IsDirectNotice source to number m text =
+    (text ≡ notice_pieces source to number m [])
+    × IsTrue (is_unescaped source)
+    × IsTrue (is_unescaped to)
+    × IsTrue (is_unescaped number)
