@@ -1,5 +1,6 @@
 -- What holds of each history of a node; for the law that each node keeps its word.
-use Rattle.std.proofs.Common.{◌≡◌, ◌⊎◌, inl, inr, ℕ, ◌+◌, ◌*◌, ◌≤◌, ◌<◌, ◌^◌, Bool, true, false, List, [], ◌∷◌, ◌++◌, length, Option, None, Some}
+use Rattle.std.proofs.Common.{◌≡◌, ◌⊎◌, inl, inr, ℕ, ◌+◌, ◌*◌, ◌≤◌, ◌<◌, ◌^◌, Bool, true, false, List, [], ◌∷◌, ◌++◌, length, Option}
+use Rattle.std.proofs.Common.{None, Some}
 use Rattle.std.proofs.Common.{refl, sym, ap, ◌∙◌, subst, arith, true≢false}
 use Rattle.std.specs.List.{list_all}
 use Rattle.std.specs.Option.{option_map, option_to_list}
@@ -36,18 +37,20 @@ use Rattle.ba_scope_ends.specs.declared.ends.End.{End}
 use Rattle.ba_scope_ends.specs.declared.parts.Part.{Part}
 use Rattle.ba_node_steps.specs.Addresses.{message_number, sender_of}
 use Rattle.ba_node_steps.specs.Fits.{HasSpareCounters, IsIdAt, NodeFits}
-use Rattle.ba_node_steps.specs.Histories.{HadCompleted, Happening, HasCounters, HasEndAt, HasEndVerdict, HasOneWord, HasScopeVerdict, IsTold}
+use Rattle.ba_node_steps.specs.Histories.{HadCompleted, Happening, HasCounters, HasEndAt, HasEndVerdict, HasOneWord}
+use Rattle.ba_node_steps.specs.Histories.{HasScopeVerdict, IsTold}
 use Rattle.ba_node_steps.specs.Histories.{HasPartIn, has_completed, written_by}
 use Rattle.ba_node_steps.specs.Histories.{TellsItsVerdict, atomic_has_one, child_has_one, consequence, input_at, letters_of, node_then}
 use Rattle.ba_node_steps.specs.Histories.{states_of, stops_with, stops_without, tick_at}
 use Rattle.ba_node_steps.specs.WordsTold.{word_in, word_told}
-use Rattle.ba_node_steps.specs.Lawful.{given, ticked}
+use Rattle.ba_node_steps.specs.Lawful.{Replays, given, ticked}
 use Rattle.ba_node_steps.specs.Node.{Among, HasPart, NodeState, counter, last}
 use Rattle.ba_node_steps.specs.Ticks.{TickStep, end_letter, notice_letter, part_letter, register_letter, tick_step}
 use Rattle.ba_node_steps.proofs.Cases.{SentOnly, nothing, of_end, of_lone, of_registering, of_up, tick_letters}
-use Rattle.ba_node_steps.proofs.Members.{among_right, id_by_number}
+use Rattle.ba_node_steps.proofs.Members.{among_left, among_right, id_by_number}
 use Rattle.ba_node_steps.proofs.Objects.{end_here, one_end, one_part, one_scope, scope_fits}
 use Rattle.ba_node_steps.proofs.PartsGo.{PartsGo, input_parts, part_back, part_on, parts_stay, tick_parts}
+use Rattle.ba_node_steps.proofs.Replayed.{goes_on}
 use Rattle.ba_node_steps.proofs.SameNode.{step_keeps}
 use Rattle.ba_node_steps.proofs.ScopesGo.{EndParts, atomic_verdict, closes_now, end_parts, input_goes, ScopesGo, scopes_stay, tick_moves}
 use Rattle.ba_node_steps.proofs.ScopesGo.{among_either, was_completed}
@@ -124,7 +127,8 @@ Still n m = (s : ScopeState) → Among n.scopes s → (t : ScopeState) × Among 
 
 itself : (n : NodeState) → Still n n
 itself n s of =
-    (s, of, record { id = refl; verdict = λ v has. has; ends = λ e among. (e, among, record { id = refl; participant = refl; verdict = λ v has. has }) })
+    let same : (e : End) → EndStill e e = λ e. record { id = refl; participant = refl; verdict = λ v has. has } in
+    (s, of, record { id = refl; verdict = λ v has. has; ends = λ e among. (e, among, same e) })
 
 one_later : (n m : NodeState) → ScopesGo n m → Still n m
 one_later n m goes s of =
@@ -226,7 +230,15 @@ end_tells : (n : NodeState) (s : ScopeState) (e : End) (says : Option Notice) �
     → Among s.ends e → OfEnds n (end_letter e says)
 end_tells n s e None is of among = no_letter n
 end_tells n s e (Some m) is of among = λ l v sent word.
-    record { scope = s; end = e; here = of; among = among; notice = m; says = is; is = sym (letter_one (notice_letter e.id e.participant m) l sent) }
+    record {
+      scope = s;
+      end = e;
+      here = of;
+      among = among;
+      notice = m;
+      says = is;
+      is = sym (letter_one (notice_letter e.id e.participant m) l sent);
+    }
   where
     letter_one : (a b : Letter) → ◌≡◌ {A = Option Letter} (Some a) (Some b) → a ≡ b
     letter_one a b h = cc
@@ -412,10 +424,12 @@ same_verdict_of (Some Undo) Undo h = refl
 
 -- the verdict of an end that goes with its scope's
 scopes_word : (s : ScopeState) (e : End) (v : Verdict) → EndParts s e → e.verdict ≡ Some v → HasOneWord s → s.verdict ≡ Some v
-scopes_word s e v parts has one = same_verdict_of s.verdict v (subst (λ (o : Option Verdict). same_verdict s.verdict o ≡ true) has (alike one))
+scopes_word s e v parts has one =
+    same_verdict_of s.verdict v (subst (λ (o : Option Verdict). same_verdict s.verdict o ≡ true) has (alike one))
   where
     below : (up : Part) → s.up ≡ Some up → same_verdict s.verdict e.verdict ≡ true
-    below up is = subst (λ (u : Option Part). verdict_fits_scope (up_state u) s.kind s.verdict e.verdict (own_choice e) ≡ true) is parts.scope
+    below up is =
+        subst (λ (u : Option Part). verdict_fits_scope (up_state u) s.kind s.verdict e.verdict (own_choice e) ≡ true) is parts.scope
 
     by_up : (o : Option Part) → s.up ≡ o → HasOneWord s → same_verdict s.verdict e.verdict ≡ true
     by_up None is (atomic_has_one kind) = atomic_verdict s e is kind parts
@@ -600,9 +614,9 @@ module _ (number : ℕ) (base : List ℕ) where
             (ap (λ (i : Id). i.0) (x_is ∙ sym q.2));
       }
 
-  head_record : (o : Option Record) (rest : List Record) (k : Record) → o ≡ Some k → Among (option_to_list o ++ rest) k
-  head_record None rest k is = absurd cc
-  head_record (Some x) rest k is = inl (record_one x k is)
+  last_record : (rest : List Record) (o : Option Record) (k : Record) → o ≡ Some k → Among (rest ++ option_to_list o) k
+  last_record rest None k is = absurd cc
+  last_record rest (Some x) k is = among_right rest (x ∷ []) k (inl (record_one x k is))
     where
       record_one : (a b : Record) → ◌≡◌ {A = Option Record} (Some a) (Some b) → a ≡ b
       record_one a b h = cc
@@ -615,9 +629,9 @@ module _ (number : ℕ) (base : List ℕ) where
       elim (part_back written n (node_then number base (h ∷ past)) p (step_parts h past room) has) [
         | inl from ↦ subst (λ (i : Id). Among (written_by number base (h ∷ past)) (journal.Acted (counter i) act.Completed))
             (sym from.2.id) (elim (from.2.completed completed) [
-              | inl before ↦ among_right (option_to_list written) (written_by number base past) _
+              | inl before ↦ among_left (written_by number base past) (option_to_list written) _
                   (completed_by_act past from.0 (earlier_has number h past room) from.1 before)
-              | inr now ↦ head_record written (written_by number base past) _ now
+              | inr now ↦ last_record (written_by number base past) written _ now
             ])
         | inr new ↦ absurd (true≢false (sym completed ∙ ap has_completed new))
       ]
@@ -627,3 +641,21 @@ module _ (number : ℕ) (base : List ℕ) where
 
       written : Option Record
       written = (consequence n h).written
+
+-- ---- the records are the node's journal
+
+append_nil : (xs : List Record) → xs ++ [] ≡ xs
+append_nil [] = refl
+append_nil (x ∷ xs) = ap (λ ys. x ∷ ys) (append_nil xs)
+
+happening_replays : (records : List Record) (n : NodeState) (h : Happening) → Replays records n
+    → Replays (records ++ option_to_list (consequence n h).written) (consequence n h).after
+happening_replays records n (input_at now i) replays = goes_on records n (given now i) replays
+happening_replays records n (tick_at now id) replays = goes_on records n (ticked now id) replays
+happening_replays records n (stops_with h) replays = happening_replays records n h replays
+happening_replays records n (stops_without h) replays = subst (λ rs. Replays rs n) (sym (append_nil records)) replays
+
+pub then_replays : (number : ℕ) (base : List ℕ) (past : List Happening) → Replays (written_by number base past) (node_then number base past)
+then_replays number base [] = refl
+then_replays number base (h ∷ past) =
+    happening_replays (written_by number base past) (node_then number base past) h (then_replays number base past)

@@ -30,7 +30,8 @@ use Rattle.ba_scope.specs.Rules.{scope_with_end, state_at_tick, tick_up, with_en
 use Rattle.ba_scope.specs.Scope.{ScopeState, any_failed, is_drained}
 use Rattle.ba_scope.specs.declared.answers.Said.{Said}
 use Rattle.ba_scope_ends.specs.Ends.{Tick, end_after_notice, end_asking, end_owing, same_id, tick_of_end}
-use Rattle.ba_scope_ends.specs.Parts.{act_when_drained, enrolled_part, part_asking, part_in_state, part_owing, refused_part, state_after_act}
+use Rattle.ba_scope_ends.specs.Parts.{act_when_drained, enrolled_part, part_asking, part_in_state, part_owing}
+use Rattle.ba_scope_ends.specs.Parts.{refused_part, state_after_act}
 use Rattle.ba_scope_ends.specs.Parts.{tick_of_part}
 use Rattle.ba_scope_ends.specs.declared.ends.End.{End}
 use Rattle.ba_scope_ends.specs.declared.parts.Part.{Part}
@@ -43,7 +44,8 @@ use Rattle.ba_node_steps.specs.Node.{scope_in_place_of, upward, with_lone, with_
 use Rattle.ba_node_steps.specs.Steps.{NodeStep, is_registering_state, node_step, same_part_state}
 use Rattle.ba_node_steps.specs.Ticks.{TickStep, tick_step}
 use Rattle.ba_node_steps.proofs.Cases.{act_cases, ask_cases, create_cases, end_notice_cases, enrolled_cases, join_cases, on_choose_cases}
-use Rattle.ba_node_steps.proofs.Cases.{on_complete_cases, on_decide_cases, on_finish_cases, on_leave_cases, part_notice_cases, refused_cases}
+use Rattle.ba_node_steps.proofs.Cases.{on_complete_cases, on_decide_cases, on_finish_cases, on_leave_cases}
+use Rattle.ba_node_steps.proofs.Cases.{part_notice_cases, refused_cases}
 use Rattle.ba_node_steps.proofs.Cases.{register_cases, tick_cases}
 use Rattle.ba_node_steps.proofs.Members.{same_id_is}
 use Rattle.ba_node_steps.proofs.Objects.{one_lone, one_scope}
@@ -138,8 +140,8 @@ enrols r p q registers id fresh = record {
   completed = λ h. absurd (true≢false (sym h ∙ fresh));
 }
 
-row_goes : (r : Option Record) (p : Part) (m : Notice) (next : PState) (prompt : Bool) → part_row p.protocol p.state m ≡ prow.Row next prompt
-    → same_part_state p.state next ≡ false → PartGoes r p (part_in_state next p)
+row_goes : (r : Option Record) (p : Part) (m : Notice) (next : PState) (prompt : Bool)
+    → part_row p.protocol p.state m ≡ prow.Row next prompt → same_part_state p.state next ≡ false → PartGoes r p (part_in_state next p)
 row_goes r p m next prompt row other =
     let keeps : row_keeps p.state (prow.Row next prompt) ≡ true = subst (λ (x : PRow). row_keeps p.state x ≡ true) row
     (part_passes (rows_keep m p.protocol)
@@ -278,7 +280,8 @@ scope_goes r n s new fits among own goes = record {
         subst (λ (y : ScopeState). UpGoes r y new) one goes)
         (λ other. up_stays r x)
 
-lone_goes : (r : Option Record) (n : NodeState) (p new : Part) → NodeFits n → Among n.parts p → PartGoes r p new → PartsGo r n (with_lone n new)
+lone_goes : (r : Option Record) (n : NodeState) (p new : Part) → NodeFits n → Among n.parts p → PartGoes r p new
+    → PartsGo r n (with_lone n new)
 lone_goes r n p new fits among goes = record {
   scopes = all_stay ScopeState (UpGoes r) IsNewAbove n.scopes (up_stays r);
   parts = all_mapped Part (PartGoes r) IsNewPart n.parts (part_in_place_of new) each;
@@ -300,7 +303,8 @@ place_goes r n id (upward s q) p f fits stands goes =
     scope_goes r n s (with_up s (f q)) fits stands.0.scope refl
     (up_to r s (with_up s (f q)) q (f q) stands.0.up refl (subst (λ (x : Part). PartGoes r x (f x)) (sym stands.1) goes))
 
-new_scope : (r : Option Record) (n : NodeState) (new : ScopeState) → IsNewAbove new → PartsGo r n (record n { scopes = n.scopes ++ new ∷ [] })
+new_scope : (r : Option Record) (n : NodeState) (new : ScopeState) → IsNewAbove new
+    → PartsGo r n (record n { scopes = n.scopes ++ new ∷ [] })
 new_scope r n new is = record {
   scopes = one_pushed ScopeState (UpGoes r) IsNewAbove n.scopes new (up_stays r) is;
   parts = all_stay Part (PartGoes r) IsNewPart n.parts (same_part r);
@@ -362,7 +366,8 @@ leave_acts s how up is =
     ))
 
 tick_up_id : (s : ScopeState) → (tick_up s).after.id ≡ s.id
-tick_up_id s = by_option (λ (t : Tick ScopeState). t.after.id ≡ s.id) s.up (record { after = s; says = None }) _ (λ root. refl) (λ up is. refl)
+tick_up_id s =
+    by_option (λ (t : Tick ScopeState). t.after.id ≡ s.id) s.up (record { after = s; says = None }) _ (λ root. refl) (λ up is. refl)
 
 -- ---- each step
 
@@ -413,11 +418,13 @@ input_parts n now (input.Decide id v) fits =
 input_parts n now (input.Choose id v) fits =
     on_choose_cases (ByInput n) n id v (λ r. parts_stay _ n) (λ at stands ok.
     let keeps = choose_keeps at.scope id v in
-    scope_goes _ n at.scope (choose at.scope id v).after fits stands.scope keeps.0 (up_same _ at.scope (choose at.scope id v).after keeps.1))
+    scope_goes _ n at.scope (choose at.scope id v).after fits stands.scope keeps.0
+    (up_same _ at.scope (choose at.scope id v).after keeps.1))
 input_parts n now (input.Complete id) fits =
     on_complete_cases (ByInput n) n id (λ r. parts_stay _ n) (λ at stands ok.
     let keeps = complete_keeps at.scope id in
-    scope_goes _ n at.scope (complete at.scope id).after fits stands.scope keeps.0 (up_same _ at.scope (complete at.scope id).after keeps.1))
+    scope_goes _ n at.scope (complete at.scope id).after fits stands.scope keeps.0
+    (up_same _ at.scope (complete at.scope id).after keeps.1))
 input_parts n now (input.Finish id) fits =
     on_finish_cases (ByInput n) n id (λ r. parts_stay _ n) (λ s up here is ok.
     let acts = finish_acts s up is in scope_goes _ n s (finish s).after fits (scope_found n id s here).0 acts.0 acts.1)

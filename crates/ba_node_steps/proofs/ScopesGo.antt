@@ -36,11 +36,14 @@ use Rattle.ba_scope.proofs.ScopeCases.{choose_cases, complete_cases, decide_case
 use Rattle.ba_scope.proofs.Tables.{above_passes, allows, each_handing_allows, end_passes, for_kinds, handing_allows, handings_allow}
 use Rattle.ba_scope.proofs.Tables.{if_leads, row_known, row_leads, rows_are_known, rows_lead}
 use Rattle.ba_scope.specs.Fits.{Above, ScopeFits, above, end_fits, same_verdict, state_fits_above, up_state, verdict_fits_scope}
-use Rattle.ba_scope.specs.Rules.{ScopeStep, changed_at, choose, complete, decide, end_with_verdict_if_any, expire, finish, is_expired, is_past}
-use Rattle.ba_scope.specs.Rules.{leave_by, own_choice, scope_with_end, tick_up, verdict_then, with_end_changed, with_up, with_up_moved, word_for}
+use Rattle.ba_scope.specs.Rules.{ScopeStep, changed_at, choose, complete, decide, end_with_verdict_if_any, expire, finish}
+use Rattle.ba_scope.specs.Rules.{is_expired, is_past}
+use Rattle.ba_scope.specs.Rules.{leave_by, own_choice, scope_with_end, tick_up, verdict_then, with_end_changed, with_up}
+use Rattle.ba_scope.specs.Rules.{with_up_moved, word_for}
 use Rattle.ba_scope.specs.Scope.{ScopeState}
 use Rattle.ba_scope.specs.declared.answers.Said.{Said}
-use Rattle.ba_scope_ends.specs.Ends.{Tick, end_after_notice, end_after_row, end_asking, end_in_state, end_owing, end_with_id, end_with_verdict}
+use Rattle.ba_scope_ends.specs.Ends.{Tick, end_after_notice, end_after_row, end_asking, end_in_state, end_owing}
+use Rattle.ba_scope_ends.specs.Ends.{end_with_id, end_with_verdict}
 use Rattle.ba_scope_ends.specs.Ends.{end_with_verdict_if_none, same_id, tick_of_end}
 use Rattle.ba_scope_ends.specs.Parts.{enrolled_part, part_asking, part_in_state, part_owing, refused_part, verdict_on_the_way}
 use Rattle.ba_scope_ends.specs.declared.ends.End.{End}
@@ -48,12 +51,14 @@ use Rattle.ba_scope_ends.specs.declared.parts.Part.{Part}
 use Rattle.ba_node_steps.specs.declared.inputs.Input.{Input}
 use Rattle.ba_node_steps.specs.declared.inputs.Input.TheVariants as input
 use Rattle.ba_node_steps.specs.Fits.{NodeFits}
-use Rattle.ba_node_steps.specs.Node.{Among, EndPlace, NodeState, PartPlace, lone, next_id, nowhere, scope_in_place_of, upward, with_part_changed}
+use Rattle.ba_node_steps.specs.Node.{Among, EndPlace, NodeState, PartPlace, lone, next_id, nowhere, scope_in_place_of}
+use Rattle.ba_node_steps.specs.Node.{upward, with_part_changed}
 use Rattle.ba_node_steps.specs.Node.{with_scope}
 use Rattle.ba_node_steps.specs.Steps.{NodeStep, node_step}
 use Rattle.ba_node_steps.specs.Ticks.{TickStep, tick_step}
 use Rattle.ba_node_steps.proofs.Cases.{act_cases, ask_cases, create_cases, end_notice_cases, enrolled_cases, join_cases, on_choose_cases}
-use Rattle.ba_node_steps.proofs.Cases.{on_complete_cases, on_decide_cases, on_finish_cases, on_leave_cases, part_notice_cases, refused_cases}
+use Rattle.ba_node_steps.proofs.Cases.{on_complete_cases, on_decide_cases, on_finish_cases, on_leave_cases}
+use Rattle.ba_node_steps.proofs.Cases.{part_notice_cases, refused_cases}
 use Rattle.ba_node_steps.proofs.Cases.{register_cases, tick_cases}
 use Rattle.ba_node_steps.proofs.Members.{all_among, among_left, among_map, same_id_is}
 use Rattle.ba_node_steps.proofs.Objects.{one_end, one_scope, scope_fits}
@@ -184,7 +189,8 @@ in_state_goes e next closes = record { id = refl; participant = refl; verdict = 
 
 notice_goes : (m : Notice) (e : End) → verdict_fits_state e.state e.verdict ≡ true → EndGoes e (end_after_notice m e)
 notice_goes m e fits = by_row (end_row e.protocol e.state m)
-    (by_table e.state (state_after e.protocol e.verdict e.state (end_row e.protocol e.state m)) (where_asked (verdict_fits_state e.state e.verdict)
+    (by_table e.state (state_after e.protocol e.verdict e.state (end_row e.protocol e.state m))
+    (where_asked (verdict_fits_state e.state e.verdict)
     (λ w. closes_after (state_after e.protocol w e.state (end_row e.protocol e.state m)) e.state) e.verdict
     (verdict_passes (row_closes m e.protocol e.state) (state_passes (rows_close m e.protocol)
     (protocol_passes (λ protocol. list_all (rows_close m protocol) ends) (each_row_closes m) e.protocol) e.state) e.verdict) fits))
@@ -373,7 +379,8 @@ module _ (n : NodeState) (s : ScopeState) (fits : NodeFits n) (of : Among n.scop
       complete_cases (λ (step : ScopeStep Said). ScopeGoes s step.after) s id (λ number shown. same_scope s)
       (λ e next found open_ undecided wish.
       ends_go s (changed_at id (end_in_state next)) (λ x among. at_goes id (end_in_state next) x (λ here.
-      wish_goes x next (subst (λ (y : End). completed_state y.protocol y.state ≡ Some next) (sym (found_is id e x found among here)) wish))))
+      wish_goes x next (subst (λ (y : End). completed_state y.protocol y.state ≡ Some next)
+      (sym (found_is id e x found among here)) wish))))
 
 finished_goes : (s : ScopeState) → ScopeGoes s (finish s).after
 finished_goes s =

@@ -11,6 +11,7 @@ use Rattle.ba_core.specs.declared.states.PState.TheVariants as part
 use Rattle.ba_link.specs.States.{part_among}
 use Rattle.ba_message.specs.declared.messages.Letter.{Letter}
 use Rattle.ba_record.specs.declared.records.Record.{Record}
+use Rattle.ba_record.specs.declared.records.Record.TheVariants as journal
 use Rattle.ba_scope.specs.Scope.{ScopeState}
 use Rattle.ba_scope_ends.specs.declared.ends.End.{End}
 use Rattle.ba_scope_ends.specs.declared.parts.Part.{Part}
@@ -38,7 +39,8 @@ pub record Consequence : Type 0 where
 
 abbrev pub consequence : NodeState → Happening → Consequence
 consequence n (input_at now i) = let step = node_step n now i in record { after = step.after; written = step.written; letter = None }
-consequence n (tick_at now id) = let step = tick_step n now id in record { after = step.after; written = step.written; letter = step.letter }
+consequence n (tick_at now id) =
+    let step = tick_step n now id in record { after = step.after; written = step.written; letter = step.letter }
 consequence n (stops_with h) = let taken = consequence n h in record { after = taken.after; written = taken.written; letter = None }
 consequence n (stops_without h) = record { after = n; written = None; letter = None }
 
@@ -53,10 +55,10 @@ abbrev pub states_of : ℕ → List ℕ → List Happening → List NodeState
 states_of number base [] = new_node number base ∷ []
 states_of number base (h ∷ past) = node_then number base (h ∷ past) ∷ states_of number base past
 
--- the records that it ever kept
+-- the records that it ever kept, in their order
 abbrev pub written_by : ℕ → List ℕ → List Happening → List Record
-written_by number base [] = []
-written_by number base (h ∷ past) = option_to_list (consequence (node_then number base past) h).written ++ written_by number base past
+written_by number base [] = journal.Node number base ∷ []
+written_by number base (h ∷ past) = written_by number base past ++ option_to_list (consequence (node_then number base past) h).written
 
 -- the letters that ever went out
 abbrev pub letters_of : ℕ → List ℕ → List Happening → List Letter
@@ -132,7 +134,8 @@ pub record HadCompleted (states : List NodeState) (id : ℕ) : Type 0 where
 -- it completed, or came from there
 abbrev pub has_completed : PState → Bool
 has_completed =
-    part_among (part.Completed ∷ part.Closing ∷ part.Compensating ∷ part.FailingCompensating ∷ part.Ended Closed ∷ part.Ended Compensated ∷ [])
+    part_among (part.Completed ∷ part.Closing ∷ part.Compensating ∷ part.FailingCompensating ∷ part.Ended Closed
+    ∷ part.Ended Compensated ∷ [])
 
 -- there is a participant with this identifier, no other one has it, and it is in this state
 pub record HasPartIn (n : NodeState) (id : Id) (state : PState) : Type 0 where

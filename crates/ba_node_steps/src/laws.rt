@@ -218,7 +218,7 @@ pub fn what_a_node_says_can_be_written()
 {}
 
 /// Whatever arrives at a node: how a participant ended never changes, and one that closes or compensates, or has, completed by an
-/// act of its own before, whose record the node kept.
+/// act of its own before, whose record the node kept. The node is the replay of the records that it kept: so a reload changes nothing.
 pub fn each_participant_keeps_its_outcome()
     ensures ended { (number : ℕ) (base : List ℕ) (more past : List Happening) (p : Part) (how : How) → HasCounters number (more ++ past)
         → HasPart (node_then number base past) p → p.state ≡ part.Ended how
@@ -226,4 +226,6 @@ pub fn each_participant_keeps_its_outcome()
     ensures completed { (number : ℕ) (base : List ℕ) (past : List Happening) (p : Part) → HasCounters number past
         → HasPart (node_then number base past) p → IsTrue (has_completed p.state)
         → Among (written_by number base past) (journal.Acted (counter p.id) act.Completed) }
+    ensures replay { (number : ℕ) (base : List ℕ) (past : List Happening)
+        → Replays (written_by number base past) (node_then number base past) }
 {}
