@@ -35,7 +35,7 @@ use Rattle.ba_scope.proofs.Lists.{by_test}
 use Rattle.ba_scope.proofs.ScopeCases.{choose_cases, complete_cases, decide_cases, finish_cases, leave_cases}
 use Rattle.ba_scope.proofs.Tables.{above_passes, allows, each_handing_allows, end_passes, for_kinds, handing_allows, handings_allow}
 use Rattle.ba_scope.proofs.Tables.{if_leads, row_known, row_leads, rows_are_known, rows_lead}
-use Rattle.ba_scope.specs.Fits.{Above, ScopeFits, above, end_fits, same_verdict, state_fits_above, up_state, verdict_fits_scope}
+use Rattle.ba_scope.specs.Fits.{Above, ScopeFits, above, end_fits, same_verdict, up_state, verdict_fits_scope}
 use Rattle.ba_scope.specs.Rules.{ScopeStep, changed_at, choose, complete, decide, end_with_verdict_if_any, expire, finish}
 use Rattle.ba_scope.specs.Rules.{is_expired, is_past}
 use Rattle.ba_scope.specs.Rules.{leave_by, own_choice, scope_with_end, tick_up, verdict_then, with_end_changed, with_up}
@@ -258,10 +258,9 @@ pub end_parts : (s : ScopeState) (e : End) → ScopeFits s → Among s.ends e �
 end_parts s e fits among =
     let fit = all_among (λ (x : End). end_fits (above s) x ≡ true) s.ends e fits.ends among in
     let both = and_parts (is_end_state e.protocol e.state && verdict_fits_state e.state e.verdict)
-    (verdict_fits_scope (up_state s.up) s.kind s.verdict e.verdict (own_choice e) && state_fits_above (up_state s.up) e.state) fit in
+    (verdict_fits_scope (up_state s.up) s.kind s.verdict e.verdict (own_choice e) && _) fit in
     let own = and_parts (is_end_state e.protocol e.state) (verdict_fits_state e.state e.verdict) both.0 in
-    let seen = and_parts (verdict_fits_scope (up_state s.up) s.kind s.verdict e.verdict (own_choice e))
-    (state_fits_above (up_state s.up) e.state) both.1 in
+    let seen = and_parts (verdict_fits_scope (up_state s.up) s.kind s.verdict e.verdict (own_choice e)) _ both.1 in
     record { verdict = own.1; scope = seen.0 }
 
 -- in an AtomicOutcome root an end's verdict is the scope's
