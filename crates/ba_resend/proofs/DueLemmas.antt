@@ -1,5 +1,6 @@
 -- What is due of a plan is a map: what is set at a counter is set at its identifier, and more room changes nothing. For `Plan`.
-use Rattle.std.proofs.Common.{◌≡◌, ℕ, zero, suc, ◌+◌, ◌-◌, ◌*◌, ◌/◌, ◌%◌, ◌^◌, ◌<◌, ◌≤◌, ◌⊎◌, Bool, true, false, cond, List, length, get_or, refl, sym, ◌∙◌, ap, subst, inl, inr, arith}
+use Rattle.std.proofs.Common.{◌≡◌, ℕ, zero, suc, ◌+◌, ◌-◌, ◌*◌, ◌/◌, ◌%◌, ◌^◌, ◌<◌, ◌≤◌, ◌⊎◌, Bool, true, false, cond, List, length}
+use Rattle.std.proofs.Common.{get_or, refl, sym, ◌∙◌, ap, subst, inl, inr, arith}
 use Rattle.std.proofs.lemmas.Bool.{cases_eq, cases_lt}
 use Rattle.std.proofs.lemmas.Bool.Decides.{nat_tests}
 use Rattle.std.proofs.lemmas.Cmp.{nat_cmp_total}
@@ -53,7 +54,8 @@ remove_absent m k none = same_dues _ _ (λ q. elim (cases_eq q k) as (λ _. map.
 abbrev IsNoneOf : ℕ → ℕ → ℕ → Type 0
 IsNoneOf node n q = (c : ℕ) → c < n → q ≡ id_of node c → ⊥
 
-pub get_out : (node : ℕ) (row : ℕ → Option Due) (n q : ℕ) → ((c : ℕ) → c < n → q ≡ id_of node c → ⊥) → map.get (dues_below node row n) q ≡ None
+pub get_out : (node : ℕ) (row : ℕ → Option Due) (n q : ℕ) → ((c : ℕ) → c < n → q ≡ id_of node c → ⊥) → map.get (dues_below node row n) q
+    ≡ None
 get_out node row zero q out = get-empty nat_cmp q
 get_out node row (suc n) q out =
     row_other (dues_below node row n) (id_of node n) (row n) q (out n (omega arith)) ∙ get_out node row n q (λ c h. out c (omega arith))
@@ -63,7 +65,8 @@ get_in node row zero c low = absurd (omega arith)
 get_in node row (suc n) c low = elim (cases_eq c n) as (λ _. map.get (dues_below node row (suc n)) (id_of node c) ≡ row c) [
   | inl e ↦ subst (λ k. map.get (dues_below node row (suc n)) (id_of node k) ≡ row k) (sym e)
       (row_same (dues_below node row n) (id_of node n) (row n) (get_out node row n (id_of node n) (λ k h is. omega arith)))
-  | inr ne ↦ row_other (dues_below node row n) (id_of node n) (row n) (id_of node c) (λ is. ne (omega arith)) ∙ get_in node row n c (omega arith)
+  | inr ne ↦ row_other (dues_below node row n) (id_of node n) (row n) (id_of node c) (λ is. ne (omega arith)) ∙ get_in node row n c
+      (omega arith)
 ]
 
 pub in_or_out : (node n q : ℕ) → ((c : ℕ) × (c < n) × (q ≡ id_of node c)) ⊎ ((c : ℕ) → c < n → q ≡ id_of node c → ⊥)
@@ -87,17 +90,21 @@ some_in node row n q d is = elim (in_or_out node n q) [
   | inr out ↦ absurd (let none : ◌≡◌ {A = Option Due} None (Some d) = sym (get_out node row n q out) ∙ is in let h : ⊥ = cc in h)
 ]
 
-set_due_at : (node : ℕ) (row row' : ℕ → Option Due) (n k : ℕ) (v : Option Due) → k < n → row' k ≡ v → ((c : ℕ) → (c ≡ k → ⊥) → row' c ≡ row c)
-    → (c : ℕ) → c < n → map.get (dues_below node row' n) (id_of node c) ≡ map.get (due_with (dues_below node row n) (id_of node k) v) (id_of node c)
+set_due_at : (node : ℕ) (row row' : ℕ → Option Due) (n k : ℕ) (v : Option Due) → k < n → row' k ≡ v → ((c : ℕ) → (c ≡ k → ⊥) → row' c
+    ≡ row c)
+    → (c : ℕ) → c < n → map.get (dues_below node row' n) (id_of node c) ≡ map.get (due_with (dues_below node row n) (id_of node k) v)
+        (id_of node c)
 set_due_at node row row' n k v low is same c c_low =
     let m : Dues = dues_below node row n in
     elim (cases_eq c k) as (λ _. map.get (dues_below node row' n) (id_of node c) ≡ map.get (due_with m (id_of node k) v) (id_of node c)) [
-      | inl e ↦ get_in node row' n c c_low ∙ ap row' e ∙ is ∙ sym (ap (λ j. map.get (due_with m (id_of node k) v) (id_of node j)) e ∙ with_same m (id_of node k) v)
+      | inl e ↦ get_in node row' n c c_low ∙ ap row' e ∙ is ∙ sym (ap (λ j. map.get (due_with m (id_of node k) v) (id_of node j)) e
+          ∙ with_same m (id_of node k) v)
       | inr ne ↦ get_in node row' n c c_low ∙ same c ne
           ∙ sym (with_other m (id_of node k) v (id_of node c) (λ same_id. ne (omega arith)) ∙ get_in node row n c c_low)
     ]
 
-pub set_due : (node : ℕ) (row row' : ℕ → Option Due) (n k : ℕ) (v : Option Due) → k < n → row' k ≡ v → ((c : ℕ) → (c ≡ k → ⊥) → row' c ≡ row c)
+pub set_due : (node : ℕ) (row row' : ℕ → Option Due) (n k : ℕ) (v : Option Due) → k < n → row' k ≡ v → ((c : ℕ) → (c ≡ k → ⊥) → row' c
+    ≡ row c)
     → dues_below node row' n ≡ due_with (dues_below node row n) (id_of node k) v
 set_due node row row' n k v low is same =
     let m : Dues = dues_below node row n in
@@ -107,7 +114,8 @@ set_due node row row' n k v low is same =
       | inr out ↦ get_out node row' n q out ∙ sym (with_other m (id_of node k) v q (out k low) ∙ get_out node row n q out)
     ])
 
-wider_due_at : (node : ℕ) (row : ℕ → Option Due) (n c : ℕ) → ((k : ℕ) → n ≤ k → row k ≡ None) → row c ≡ map.get (dues_below node row n) (id_of node c)
+wider_due_at : (node : ℕ) (row : ℕ → Option Due) (n c : ℕ) → ((k : ℕ) → n ≤ k → row k ≡ None) → row c ≡ map.get (dues_below node row n)
+    (id_of node c)
 wider_due_at node row n c beyond = elim (cases_lt c n) as (λ _. row c ≡ map.get (dues_below node row n) (id_of node c)) [
   | inl low ↦ sym (get_in node row n c low)
   | inr past ↦ beyond c past ∙ sym (get_out node row n (id_of node c) (λ k h e. omega arith))

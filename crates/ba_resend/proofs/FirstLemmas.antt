@@ -1,5 +1,6 @@
 -- The first node of a tournament is the first of all that is due: for `Share::first`.
-use Rattle.std.proofs.Common.{◌≡◌, ℕ, zero, suc, ◌+◌, ◌-◌, ◌*◌, ◌/◌, ◌<◌, ◌≤◌, ◌⊎◌, Bool, true, false, cond, List, length, set, drop, map, get_or, replicate, refl, sym, ◌∙◌, ap, subst, inl, inr, arith}
+use Rattle.std.proofs.Common.{◌≡◌, ℕ, zero, suc, ◌+◌, ◌-◌, ◌*◌, ◌/◌, ◌<◌, ◌≤◌, ◌⊎◌, Bool, true, false, cond, List, length, set, drop, map}
+use Rattle.std.proofs.Common.{get_or, replicate, refl, sym, ◌∙◌, ap, subst, inl, inr, arith}
 use Rattle.std.proofs.lemmas.List.{get_or-drop, get_or_past}
 use Rattle.std.proofs.Math.ListN.{get_or-map}
 use Rattle.std.proofs.lemmas.Bool.{cases_eq, cases_lt}
@@ -7,7 +8,8 @@ use Rattle.std.proofs.lemmas.Bool.Decides.{nat_tests}
 use Rattle.std.specs.Prelude.{Option, Some, None, nat_lt, ◌||◌, ◌&&◌, ◌==◌}
 use Rattle.ba_resend.specs.declared.dues.Due.{Due}
 use Rattle.ba_resend.specs.declared.shares.Entry.{Entry}
-use Rattle.ba_resend.specs.inside.Tournaments.{IsSettledBut, IsTournament, IsFirst, IsFirstOf, node_at, first_of, comes_first, entry_at, due_in, half, slot, slots_of}
+use Rattle.ba_resend.specs.inside.Tournaments.{IsSettledBut, IsTournament, IsFirst, IsFirstOf, node_at, first_of, comes_first, entry_at}
+use Rattle.ba_resend.specs.inside.Tournaments.{due_in, half, slot, slots_of}
 
 -- the first is not due after the second
 abbrev IsNotAfter : Option Entry → Option Entry → Type 0
@@ -54,7 +56,8 @@ first_either None y = inr refl
 first_either (Some a) None = inl refl
 first_either (Some a) (Some b) = cond_either (comes_first a b) (Some a) (Some b)
 
-child_not_after : (t : List (Option Entry)) → IsTournament t → (k : ℕ) → 1 < k → k < length t → IsNotAfter (node_at t (k / 2)) (node_at t k)
+child_not_after : (t : List (Option Entry)) → IsTournament t → (k : ℕ) → 1 < k → k < length t → IsNotAfter (node_at t (k / 2))
+    (node_at t k)
 child_not_after t s k pos low =
     let up : node_at t (k / 2) ≡ first_of (node_at t (2 * (k / 2))) (node_at t (2 * (k / 2) + 1)) =
     s.settled (k / 2) (omega arith) (omega (arith, s.even)) (λ e. omega arith) in
@@ -70,7 +73,8 @@ child_not_after t s k pos low =
     ]
 
 -- the first node is due no later than any
-root_not_after : (fuel : ℕ) (t : List (Option Entry)) → IsTournament t → (k : ℕ) → k ≤ fuel → 0 < k → k < length t → IsNotAfter (node_at t 1) (node_at t k)
+root_not_after : (fuel : ℕ) (t : List (Option Entry)) → IsTournament t → (k : ℕ) → k ≤ fuel → 0 < k → k < length t → IsNotAfter
+    (node_at t 1) (node_at t k)
 root_not_after zero t s k le pos low = absurd (omega arith)
 root_not_after (suc fuel) t s k le pos low = elim (cases_lt 1 k) [
   | inl more ↦ not_after (node_at t 1) (node_at t (k / 2)) (node_at t k)
@@ -122,21 +126,25 @@ none_some : {A : Type 0} (d : Due) → ◌≡◌ {A = Option Due} None (Some d) 
 none_some d e = absurd (let h : ⊥ = cc in h)
 
 -- each place where something is due
-not_before : (t : List (Option Entry)) → IsTournament t → 1 < length t → (e : Entry) → node_at t 1 ≡ Some e → (j : ℕ) (d : Due) → slot (slots_of t) j ≡ Some d
+not_before : (t : List (Option Entry)) → IsTournament t → 1 < length t → (e : Entry) → node_at t 1 ≡ Some e → (j : ℕ) (d : Due) → slot
+    (slots_of t) j ≡ Some d
     → (e.due.moment ≤ d.moment) × (e.due.moment ≡ d.moment → e.place ≤ j)
 not_before t s more e root j d is =
     let node : due_in (node_at t (half t + j)) ≡ Some d = sym (slot_of_node t j) ∙ is in
     elim (cases_lt j (half t)) [
-      | inl low ↦ (let entry : node_at t (half t + j) ≡ Some (record { place = j; due = d }) = entry_is j (node_at t (half t + j)) d (s.placed j low) node in
+      | inl low ↦ (let entry : node_at t (half t + j) ≡ Some (record { place = j; due = d }) = entry_is j (node_at t (half t + j)) d
+          (s.placed j low) node in
           let order : IsNotAfter (node_at t 1) (node_at t (half t + j)) =
           root_not_after (length t) t s (half t + j) (omega (arith, s.even)) (omega (arith, s.even)) (omega (arith, s.even)) in
-          bounds e (record { place = j; due = d }) (subst (λ y. IsNotAfter (Some e) y) entry (subst (λ y. IsNotAfter y (node_at t (half t + j))) root order)))
+          bounds e (record { place = j; due = d }) (subst (λ y. IsNotAfter (Some e) y) entry (subst (λ y. IsNotAfter y (node_at t
+              (half t + j))) root order)))
       | inr past ↦ none_some d (sym (ap due_in (get_or_past t (half t + j) None (omega (arith, s.even)))) ∙ node)
     ]
 
 is_some : (t : List (Option Entry)) → IsTournament t → 1 < length t → (e : Entry) → node_at t 1 ≡ Some e → IsFirst (slots_of t) e
 is_some t s more e root =
-    let found : (j : ℕ) × (j < half t) × (node_at t (half t + j) ≡ node_at t 1) = place_of_node (length t) t s 1 (omega arith) (omega arith) more in
+    let found : (j : ℕ) × (j < half t) × (node_at t (half t + j) ≡ node_at t 1) = place_of_node (length t) t s 1 (omega arith)
+        (omega arith) more in
     let entry : node_at t (half t + found.0) ≡ Some e = found.2 ∙ root in
     let placed : node_at t (half t + found.0) ≡ entry_at found.0 (due_in (node_at t (half t + found.0))) = s.placed found.0 found.1 in
     let whole : ◌≡◌ {A = Option Entry} (Some e) (Some (record { place = found.0; due = e.due })) =

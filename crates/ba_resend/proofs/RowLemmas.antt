@@ -1,5 +1,6 @@
 -- A row set in its share is the row of its counter, and of no other; shares that grow keep their rows. For `Plan`.
-use Rattle.std.proofs.Common.{◌≡◌, ℕ, zero, suc, ◌+◌, ◌-◌, ◌*◌, ◌/◌, ◌%◌, ◌^◌, ◌<◌, ◌≤◌, ◌⊎◌, List, [], ◌∷◌, ◌++◌, lit<, length, set, get_or, refl, sym, ◌∙◌, ap, subst, inl, inr, arith}
+use Rattle.std.proofs.Common.{◌≡◌, ℕ, zero, suc, ◌+◌, ◌-◌, ◌*◌, ◌/◌, ◌%◌, ◌^◌, ◌<◌, ◌≤◌, ◌⊎◌, List, [], ◌∷◌, ◌++◌, lit<, length, set}
+use Rattle.std.proofs.Common.{get_or, refl, sym, ◌∙◌, ap, subst, inl, inr, arith}
 use Rattle.std.proofs.lemmas.Bool.{cases_eq, cases_lt}
 use Rattle.std.proofs.lemmas.List.{length-set, get_or-set_same, get_or-set_other}
 use Rattle.std.proofs.lemmas.Nat.{div-add-mod', mod_below, le-div, mod-mul-add, div-mul-add, mul-le}
@@ -23,7 +24,8 @@ row_by shares n e len = ap (λ k. slot (get_or shares (e % k) []) (e / k)) len
 shares_len : (shares : Shares) (c : ℕ) (v : Option Due) → length (shares_with_row shares c v) ≡ length shares
 shares_len shares c v = length-set shares (c % length shares) (set (get_or shares (c % length shares) []) (c / length shares) v)
 
-pub row_set_same : (shares : Shares) (c : ℕ) (v : Option Due) → 0 < length shares → c / length shares < length (get_or shares (c % length shares) [])
+pub row_set_same : (shares : Shares) (c : ℕ) (v : Option Due) → 0 < length shares → c / length shares < length (get_or shares
+    (c % length shares) [])
     → row_at (shares_with_row shares c v) c ≡ v
 row_set_same shares c v pos within =
     let n : ℕ = length shares in
@@ -48,14 +50,16 @@ row_set_other shares c v e pos ne =
 
 share_len : (shares : Shares) (k p : ℕ) (v : Option Due) (s : ℕ) → k < length shares
     → length (get_or (set shares k (set (get_or shares k []) p v)) s []) ≡ length (get_or shares s [])
-share_len shares k p v s low = elim (cases_eq s k) as (λ _. length (get_or (set shares k (set (get_or shares k []) p v)) s []) ≡ length (get_or shares s [])) [
+share_len shares k p v s low = elim (cases_eq s k) as (λ _. length (get_or (set shares k (set (get_or shares k []) p v)) s []) ≡ length
+    (get_or shares s [])) [
   | inl e ↦ ap (λ j. length (get_or (set shares k (set (get_or shares k []) p v)) j [])) e
       ∙ ap length (get_or-set_same shares k (set (get_or shares k []) p v) [] low)
       ∙ length-set (get_or shares k []) p v ∙ sym (ap (λ j. length (get_or shares j [])) e)
   | inr ne ↦ ap length (get_or-set_other shares k s (set (get_or shares k []) p v) [] ne)
 ]
 
-pub set_fits : (shares : Shares) (room c : ℕ) (v : Option Due) → FitsRoom shares room → c < room → FitsRoom (shares_with_row shares c v) room
+pub set_fits : (shares : Shares) (room c : ℕ) (v : Option Due) → FitsRoom shares room → c < room → FitsRoom
+    (shares_with_row shares c v) room
 set_fits shares room c v f low =
     let n : ℕ = length shares in
     record {
@@ -67,10 +71,12 @@ set_fits shares room c v f low =
     }
 
 same_planned : (node s s' r r' : ℕ) (d d' : Dues) → s ≡ s' → r ≡ r' → d ≡ d'
-    → ◌≡◌ {A = Planned} (record { node = node; senders = s; room = r; due = d }) (record { node = node; senders = s'; room = r'; due = d' })
+    → ◌≡◌ {A = Planned} (record { node = node; senders = s; room = r; due = d }) (record { node = node; senders = s'; room = r'; due =
+        d' })
 same_planned node s s' r r' d d' p q e = λ i. record { node = node; senders = p i; room = q i; due = e i }
 
-pub set_planned : (node room : ℕ) (shares : Shares) (id : ℕ) (v : Option Due) → FitsRoom shares room → HasRoom (planned_of node room shares) id
+pub set_planned : (node room : ℕ) (shares : Shares) (id : ℕ) (v : Option Due) → FitsRoom shares room → HasRoom
+    (planned_of node room shares) id
     → planned_of node room (shares_with_row shares (counter_of id) v)
     ≡ record { node = node; senders = length shares; room = room; due = due_with (dues_below node (row_at shares) room) id v }
 set_planned node room shares id v f h =
@@ -96,7 +102,8 @@ get_nowhere node room shares id f out = get_out node (row_at shares) room id (λ
     out (record { own = is ∙ sym (ap (id_of node) same); below = subst (λ k. k < room) (sym same) low }))
 
 pub quiet_planned : (node room : ℕ) (shares : Shares) (id : ℕ) → FitsRoom shares room → (HasRoom (planned_of node room shares) id → ⊥)
-    → planned_of node room shares ≡ record { node = node; senders = length shares; room = room; due = map.remove (dues_below node (row_at shares) room) id }
+    → planned_of node room shares ≡ record { node = node; senders = length shares; room = room; due = map.remove (dues_below node
+        (row_at shares) room) id }
 quiet_planned node room shares id f out =
     same_planned node _ _ room room _ _ refl refl (sym (remove_absent _ id (get_nowhere node room shares id f out)))
 
@@ -135,12 +142,15 @@ roomier_fits old new room last g f more small places = record {
   beyond = λ c past. row_grown old new g c ∙ f.beyond c (omega arith);
 }
 
-pub grown_planned : (node room : ℕ) (old new : Shares) → HaveGrown old new → FitsRoom old room → planned_of node room new ≡ planned_of node room old
+pub grown_planned : (node room : ℕ) (old new : Shares) → HaveGrown old new → FitsRoom old room → planned_of node room new
+    ≡ planned_of node room old
 grown_planned node room old new g f =
-    same_planned node _ _ room room _ _ g.senders refl (wider_due node (row_at old) (row_at new) room room (omega arith) (row_grown old new g) f.beyond)
+    same_planned node _ _ room room _ _ g.senders refl (wider_due node (row_at old) (row_at new) room room (omega arith)
+        (row_grown old new g) f.beyond)
 
 pub roomier_planned : (node room last : ℕ) (old new : Shares) → HaveGrown old new → FitsRoom old room → room ≤ last
-    → planned_of node (last + 1) new ≡ record { node = node; senders = length old; room = max room (last + 1); due = dues_below node (row_at old) room }
+    → planned_of node (last + 1) new ≡ record { node = node; senders = length old; room = max room (last + 1); due = dues_below node
+        (row_at old) room }
 roomier_planned node room last old new g f more =
     same_planned node _ _ (last + 1) (max room (last + 1)) _ _ g.senders (omega arith)
     (wider_due node (row_at old) (row_at new) room (last + 1) (omega arith) (row_grown old new g) f.beyond)
@@ -158,14 +168,16 @@ served_place node room shares share f q d is served =
 pub none_next : (node room : ℕ) (shares : Shares) (share now : ℕ) → FitsRoom shares room
     → ((j : ℕ) → slot (get_or shares share []) j ≡ None) → IsNoneDue (dues_below node (row_at shares) room) (length shares) share now
 none_next node room shares share now f none other d is served =
-    let place : (c : ℕ) × (other ≡ id_of node c) × (c % length shares ≡ share) × (slot (get_or shares share []) (c / length shares) ≡ Some d) =
+    let place : (c : ℕ) × (other ≡ id_of node c) × (c % length shares ≡ share) × (slot (get_or shares share []) (c / length shares)
+        ≡ Some d) =
     served_place node room shares share f other d is served in
     absurd (let e : ◌≡◌ {A = Option Due} None (Some d) = sym (none (place.0 / length shares)) ∙ place.3 in let h : ⊥ = cc in h)
 
 pub later_next : (node room : ℕ) (shares : Shares) (share now : ℕ) (e : Entry) → FitsRoom shares room
     → IsFirst (get_or shares share []) e → now < e.due.moment → IsNoneDue (dues_below node (row_at shares) room) (length shares) share now
 later_next node room shares share now e f first later other d is served =
-    let place : (c : ℕ) × (other ≡ id_of node c) × (c % length shares ≡ share) × (slot (get_or shares share []) (c / length shares) ≡ Some d) =
+    let place : (c : ℕ) × (other ≡ id_of node c) × (c % length shares ≡ share) × (slot (get_or shares share []) (c / length shares)
+        ≡ Some d) =
     served_place node room shares share f other d is served in
     omega (arith, first.least (place.0 / length shares) d place.3)
 
@@ -201,7 +213,8 @@ first_next node room shares share now e id f low first past is =
       planned = ap (map.get (dues_below node (row_at shares) room)) is ∙ get_in node (row_at shares) room c below
           ∙ row_of_place shares share e.place low ∙ first.here;
       past = past;
-      served = ap (λ q. counter_of q % n) is ∙ ap (λ k. k % n) (counter_is node c (omega (arith, f.small, below))) ∙ mod-mul-add e.place n share low;
+      served = ap (λ q. counter_of q % n) is ∙ ap (λ k. k % n) (counter_is node c (omega (arith, f.small, below)))
+          ∙ mod-mul-add e.place n share low;
       least = λ other d planned served.
           let place : (k : ℕ) × (other ≡ id_of node k) × (k % n ≡ share) × (slot (get_or shares share []) (k / n) ≡ Some d) =
           served_place node room shares share f other d planned served in
@@ -209,11 +222,13 @@ first_next node room shares share now e id f low first past is =
       lowest = λ other d planned served same.
           let place : (k : ℕ) × (other ≡ id_of node k) × (k % n ≡ share) × (slot (get_or shares share []) (k / n) ≡ Some d) =
           served_place node room shares share f other d planned served in
-          let order : id_of node c ≤ id_of node place.0 = lower_id node e.place n share place.0 place.2 (first.lowest (place.0 / n) d place.3 same) in
+          let order : id_of node c ≤ id_of node place.0 = lower_id node e.place n share place.0 place.2 (first.lowest
+              (place.0 / n) d place.3 same) in
           subst (λ q. id ≤ q) (sym place.1) (subst (λ q. q ≤ id_of node place.0) (sym is) order);
     }
 
-pub all_empty-push : (items : Shares) (x : List (Option Due)) → x ≡ [] → ((s : ℕ) → get_or items s [] ≡ []) → (s : ℕ) → get_or (items ++ x ∷ []) s [] ≡ []
+pub all_empty-push : (items : Shares) (x : List (Option Due)) → x ≡ [] → ((s : ℕ) → get_or items s [] ≡ []) → (s : ℕ) → get_or
+    (items ++ x ∷ []) s [] ≡ []
 all_empty-push [] x e all zero = e
 all_empty-push [] x e all (suc s) = refl
 all_empty-push (y ∷ ys) x e all zero = all zero

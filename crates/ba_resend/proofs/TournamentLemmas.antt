@@ -1,5 +1,6 @@
 -- A tournament stays one where a place is set and then each node above it: for `put`.
-use Rattle.std.proofs.Common.{◌≡◌, ℕ, zero, suc, ◌+◌, ◌-◌, ◌*◌, ◌/◌, ◌<◌, ◌≤◌, List, length, set, drop, map, get_or, refl, sym, ◌∙◌, ap, subst, inl, inr, arith}
+use Rattle.std.proofs.Common.{◌≡◌, ℕ, zero, suc, ◌+◌, ◌-◌, ◌*◌, ◌/◌, ◌<◌, ◌≤◌, List, length, set, drop, map, get_or, refl, sym, ◌∙◌, ap}
+use Rattle.std.proofs.Common.{subst, inl, inr, arith}
 use Rattle.std.proofs.lemmas.List.{get_or_default, length-set, get_or-set_same, get_or-set_other, drop-set-lt, drop-set-add, map-set}
 use Rattle.std.proofs.lemmas.Bool.{cases_eq}
 use Rattle.std.specs.Prelude.{Option, Some, None}
@@ -16,7 +17,8 @@ here t i x low = get_or-set_same t i x None low
 elsewhere : (t : List (Option Entry)) (i j : ℕ) (x : Option Entry) → (j ≡ i → ⊥) → node_at (set t i x) j ≡ node_at t j
 elsewhere t i j x apart = get_or-set_other t i j x None apart
 
-even_set : (t : List (Option Entry)) (i : ℕ) (x : Option Entry) → half t + half t ≡ length t → half (set t i x) + half (set t i x) ≡ length (set t i x)
+even_set : (t : List (Option Entry)) (i : ℕ) (x : Option Entry) → half t + half t ≡ length t → half (set t i x) + half (set t i x)
+    ≡ length (set t i x)
 even_set t i x e = subst (λ n. n / 2 + n / 2 ≡ n) (sym (length-set t i x)) e
 
 due_in-entry_at : (j : ℕ) (v : Option Due) → due_in (entry_at j v) ≡ v
@@ -41,7 +43,8 @@ settled_there : (t : List (Option Entry)) (i k : ℕ) (x : Option Entry) → (k 
     → node_at (set t i x) k ≡ first_of (node_at (set t i x) (2 * k)) (node_at (set t i x) (2 * k + 1))
 settled_there t i k x n a b e =
     elsewhere t i k x n ∙ e
-    ∙ sym (ap (λ y. first_of y (node_at (set t i x) (2 * k + 1))) (elsewhere t i (2 * k) x a) ∙ ap (first_of (node_at t (2 * k))) (elsewhere t i (2 * k + 1) x b))
+    ∙ sym (ap (λ y. first_of y (node_at (set t i x) (2 * k + 1))) (elsewhere t i (2 * k) x a) ∙ ap (first_of (node_at t (2 * k)))
+        (elsewhere t i (2 * k + 1) x b))
 
 placed_there : (t : List (Option Entry)) (i j : ℕ) (x : Option Entry) → (half t + j ≡ i → ⊥)
     → node_at t (half t + j) ≡ entry_at j (due_in (node_at t (half t + j)))
@@ -61,7 +64,8 @@ settle_node t i s pos low =
     record {
       even = even_set t i x s.even;
       settled = λ k k_pos k_low apart. elim (cases_eq k i) [
-        | inl e ↦ subst (λ n. node_at (set t i x) n ≡ first_of (node_at (set t i x) (2 * n)) (node_at (set t i x) (2 * n + 1))) (sym e) (settled_here t i pos within)
+        | inl e ↦ subst (λ n. node_at (set t i x) n ≡ first_of (node_at (set t i x) (2 * n)) (node_at (set t i x) (2 * n + 1))) (sym e)
+            (settled_here t i pos within)
         | inr ne ↦ settled_there t i k x ne (λ e. apart (omega arith)) (λ e. apart (omega arith))
             (s.settled k k_pos (omega (arith, k_low, half_set t i x)) ne)
       ];
@@ -91,10 +95,12 @@ set_place t j v s low =
     let within : i < length t = omega (arith, s.even) in
     record {
       even = even_set t i x s.even;
-      settled = λ k k_pos k_low apart. settled_there t i k x (λ e. omega (arith, k_low, half_set t i x)) (λ e. apart (omega arith)) (λ e. apart (omega arith))
+      settled = λ k k_pos k_low apart. settled_there t i k x (λ e. omega (arith, k_low, half_set t i x)) (λ e. apart (omega arith))
+          (λ e. apart (omega arith))
           (s.settled k k_pos (omega (arith, k_low, half_set t i x)) (λ e. omega arith));
       placed = λ n n_low. elim (cases_eq n j) [
-        | inl e ↦ subst (λ m. node_at (set t i x) (half (set t i x) + m) ≡ entry_at m (due_in (node_at (set t i x) (half (set t i x) + m)))) (sym e)
+        | inl e ↦ subst (λ m. node_at (set t i x) (half (set t i x) + m) ≡ entry_at m (due_in (node_at (set t i x) (half
+            (set t i x) + m)))) (sym e)
             (placed_here t j v within)
         | inr ne ↦ placed_there t i n x (λ e. ne (omega arith)) (s.placed n (omega (arith, n_low, half_set t i x)))
       ];
@@ -126,11 +132,13 @@ pub turn_settled : (t : List (Option Entry)) (i : ℕ) (a b x : Option Entry) �
 turn_settled t i a b x e s pos low =
     let one : get_or t (2 * i) a ≡ node_at t (2 * i) = get_or_default t (2 * i) a None (omega (arith, s.even)) in
     let other : get_or t (2 * i + 1) b ≡ node_at t (2 * i + 1) = get_or_default t (2 * i + 1) b None (omega (arith, s.even)) in
-    let is : x ≡ first_of (node_at t (2 * i)) (node_at t (2 * i + 1)) = e ∙ ap (λ y. first_of y (get_or t (2 * i + 1) b)) one ∙ ap (first_of (node_at t (2 * i))) other in
+    let is : x ≡ first_of (node_at t (2 * i)) (node_at t (2 * i + 1)) = e ∙ ap (λ y. first_of y (get_or t (2 * i + 1) b)) one ∙ ap
+        (first_of (node_at t (2 * i))) other in
     subst (λ y. IsSettledBut (set t i y) (i / 2)) (sym is) (settle_node t i s pos low)
 
 pub turn_below : (t : List (Option Entry)) (i : ℕ) (x : Option Entry) → i < half t → i / 2 < half (set t i x)
 turn_below t i x low = omega (arith, half_set t i x)
 
-pub turn_slots : (t : List (Option Entry)) (i : ℕ) (x : Option Entry) (slots : List (Option Due)) → i < half t → slots_of t ≡ slots → slots_of (set t i x) ≡ slots
+pub turn_slots : (t : List (Option Entry)) (i : ℕ) (x : Option Entry) (slots : List (Option Due)) → i < half t → slots_of t ≡ slots
+    → slots_of (set t i x) ≡ slots
 turn_slots t i x slots low e = settle_slots t i x low ∙ e

@@ -4,10 +4,12 @@ use Rattle.ba_resend.proofs.RowLemmas.{all_empty-push, empty_fits, empty_planned
 use Rattle.ba_resend.proofs.plans.Plan.new.Goals as goal
 
 pub invariant_of-result : goal.invariant_of-result
-invariant_of-result c = empty_fits c.loop.shares.items (omega (arith, c.loop.invariant.len, c.loop-test.false, c.requires)) c.loop.invariant.empty
+invariant_of-result c = empty_fits c.loop.shares.items (omega
+    (arith, c.loop.invariant.len, c.loop-test.false, c.requires)) c.loop.invariant.empty
 
 pub returns : goal.returns
-returns c = empty_planned c.args.node c.args.senders c.loop.shares.items (omega (arith, c.loop.invariant.len, c.loop-test.false, c.loop.auto.counter-end))
+returns c = empty_planned c.args.node c.args.senders c.loop.shares.items (omega
+    (arith, c.loop.invariant.len, c.loop-test.false, c.loop.auto.counter-end))
 
 pub loop-preserved : goal.loop-preserved
 loop-preserved c =
