@@ -40,8 +40,8 @@ use Rattle.ba_node_steps.specs.Fits.{HasSpareCounters, IsIdAt, NodeFits}
 use Rattle.ba_node_steps.specs.Histories.{HadCompleted, Happening, HasCounters, HasEndAt, HasEndVerdict, HasOneWord}
 use Rattle.ba_node_steps.specs.Histories.{HasScopeVerdict, IsTold}
 use Rattle.ba_node_steps.specs.Histories.{HasPartIn, has_completed, written_by}
-use Rattle.ba_node_steps.specs.Histories.{TellsItsVerdict, atomic_has_one, child_has_one, consequence, input_at, letters_of, node_then}
-use Rattle.ba_node_steps.specs.Histories.{states_of, stops_with, stops_without, tick_at}
+use Rattle.ba_node_steps.specs.Histories.{TellsItsVerdict, atomic_has_one, child_has_one, consequence, arrives_at, letters_of, node_then}
+use Rattle.ba_node_steps.specs.Histories.{states_of, stops_with, stops_without, ticks_at}
 use Rattle.ba_node_steps.specs.WordsTold.{word_in, word_told}
 use Rattle.ba_node_steps.specs.Lawful.{Replays, given, ticked}
 use Rattle.ba_node_steps.specs.Node.{Among, HasPart, NodeState, counter, last}
@@ -65,12 +65,12 @@ record HappensFit (n after : NodeState) : Type 0 where
   number : after.number ≡ n.number
 
 happening_fits : (n : NodeState) (h : Happening) → HasSpareCounters n → NodeFits n → HappensFit n (consequence n h).after
-happening_fits n (input_at now i) room fits = record {
+happening_fits n (arrives_at now i) room fits = record {
   fits = step_fits n (given now i) room fits;
   few = step_makes_few n (given now i) room fits;
   number = let same = step_keeps n (given now i) in same.number;
 }
-happening_fits n (tick_at now id) room fits = record {
+happening_fits n (ticks_at now id) room fits = record {
   fits = step_fits n (ticked now id) room fits;
   few = step_makes_few n (ticked now id) room fits;
   number = let same = step_keeps n (ticked now id) in same.number;
@@ -106,8 +106,8 @@ module _ (number : ℕ) (base : List ℕ) where
 -- ---- its scopes and ends go on
 
 happening_goes : (n : NodeState) (h : Happening) → NodeFits n → ScopesGo n (consequence n h).after
-happening_goes n (input_at now i) fits = input_goes n now i fits
-happening_goes n (tick_at now id) fits = tick_moves n now id fits
+happening_goes n (arrives_at now i) fits = input_goes n now i fits
+happening_goes n (ticks_at now id) fits = tick_moves n now id fits
 happening_goes n (stops_with h) fits = happening_goes n h fits
 happening_goes n (stops_without h) fits = scopes_stay n
 
@@ -301,8 +301,8 @@ tick_tells n now id =
     (λ s p w no_scope no_end stands hears moves. part_tells n p (tick_up s).says (up_tick_wordless s))
 
 happening_tells : (n : NodeState) (h : Happening) → OfEnds n (consequence n h).letter
-happening_tells n (input_at now i) = no_letter n
-happening_tells n (tick_at now id) = tick_tells n now id
+happening_tells n (arrives_at now i) = no_letter n
+happening_tells n (ticks_at now id) = tick_tells n now id
 happening_tells n (stops_with h) = no_letter n
 happening_tells n (stops_without h) = no_letter n
 
@@ -580,8 +580,8 @@ module _ (number : ℕ) (base : List ℕ) where
 -- ---- participants
 
 happening_parts : (n : NodeState) (h : Happening) → NodeFits n → PartsGo (consequence n h).written n (consequence n h).after
-happening_parts n (input_at now i) fits = input_parts n now i fits
-happening_parts n (tick_at now id) fits = tick_parts n now id fits
+happening_parts n (arrives_at now i) fits = input_parts n now i fits
+happening_parts n (ticks_at now id) fits = tick_parts n now id fits
 happening_parts n (stops_with h) fits = happening_parts n h fits
 happening_parts n (stops_without h) fits = parts_stay None n
 
@@ -650,8 +650,8 @@ append_nil (x ∷ xs) = ap (λ ys. x ∷ ys) (append_nil xs)
 
 happening_replays : (records : List Record) (n : NodeState) (h : Happening) → Replays records n
     → Replays (records ++ option_to_list (consequence n h).written) (consequence n h).after
-happening_replays records n (input_at now i) replays = goes_on records n (given now i) replays
-happening_replays records n (tick_at now id) replays = goes_on records n (ticked now id) replays
+happening_replays records n (arrives_at now i) replays = goes_on records n (given now i) replays
+happening_replays records n (ticks_at now id) replays = goes_on records n (ticked now id) replays
 happening_replays records n (stops_with h) replays = happening_replays records n h replays
 happening_replays records n (stops_without h) replays = subst (λ rs. Replays rs n) (sym (append_nil records)) replays
 

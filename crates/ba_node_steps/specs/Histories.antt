@@ -27,8 +27,8 @@ use Rattle.ba_node_steps.specs.WordsTold.{word_in}
 -- Any input at any moment: a message from whoever it is, or what the application asks; and the tick of an object. The node
 -- may stop meanwhile and be loaded again, with the record of what happened or without it: then nothing goes out.
 pub data Happening : Type 0 where
-  input_at : ℕ → Input → Happening
-  tick_at : ℕ → Id → Happening
+  arrives_at : ℕ → Input → Happening
+  ticks_at : ℕ → Id → Happening
   stops_with stops_without : Happening → Happening
 
 -- the node afterwards, the record that it keeps, and the letter that goes out
@@ -38,8 +38,8 @@ pub record Consequence : Type 0 where
   pub letter : Option Letter
 
 abbrev pub consequence : NodeState → Happening → Consequence
-consequence n (input_at now i) = let step = node_step n now i in record { after = step.after; written = step.written; letter = None }
-consequence n (tick_at now id) =
+consequence n (arrives_at now i) = let step = node_step n now i in record { after = step.after; written = step.written; letter = None }
+consequence n (ticks_at now id) =
     let step = tick_step n now id in record { after = step.after; written = step.written; letter = step.letter }
 consequence n (stops_with h) = let taken = consequence n h in record { after = taken.after; written = taken.written; letter = None }
 consequence n (stops_without h) = record { after = n; written = None; letter = None }

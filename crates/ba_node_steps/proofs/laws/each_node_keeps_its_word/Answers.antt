@@ -1,5 +1,7 @@
-use Rattle.ba_node_steps.proofs.HistoryLemmas.{close_after_completed, end_keeps, scope_keeps, tells_its_verdict, told_one, told_one_in_scope}
-use Rattle.ba_node_steps.proofs.TellingLemmas.{closes_have_counters, first_closes, first_undone, second_closes, second_undone, undone_have_counters}
+use Rattle.ba_node_steps.proofs.HistoryLemmas.{close_after_completed, end_keeps, scope_keeps}
+use Rattle.ba_node_steps.proofs.HistoryLemmas.{tells_its_verdict, told_one, told_one_in_scope}
+use Rattle.ba_node_steps.proofs.TellingLemmas.{closes_have_counters, first_closes, first_undone}
+use Rattle.ba_node_steps.proofs.TellingLemmas.{second_closes, second_undone, undone_have_counters}
 use Rattle.ba_node_steps.proofs.laws.each_node_keeps_its_word.Goals as goal
 
 pub returns-clause-scopes : goal.returns-clause-scopes
