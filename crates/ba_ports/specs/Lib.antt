@@ -2,9 +2,7 @@ pub mod Causes
 pub mod Counts
 pub mod Disk
 pub mod Inputs
-pub mod Jobs
 pub mod Lines
 pub mod Outputs
 pub mod Streams
-pub mod Told
 pub mod Whole

@@ -1,10 +1,11 @@
 //! A work without an application.
 ghost use Rattle.std.specs.Prelude.{◌≡◌, None, Ok};
 ghost use Rattle.ba_ports.specs.Causes.{CountsFailures};
-ghost use Rattle.ba_ports.specs.declared.works.Outcome.TheVariants as outcome;
+ghost use Rattle.ba_ports_daemon.specs.declared.works.Outcome.TheVariants as outcome;
 
 use ba_core::Id;
-use ba_ports::{Failed, Outcome, Work};
+use ba_ports::Failed;
+use ba_ports_daemon::{Outcome, Work};
 
 /// A work that is always done, and never fails. It tells no calls.
 #[derive(Clone, Copy, Debug)]

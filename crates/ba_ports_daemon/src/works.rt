@@ -1,13 +1,13 @@
 //! The application's work of a participant.
 ghost use Rattle.std.specs.Prelude.{◌≡◌, ℕ, List, Option, IfOk};
 ghost use Rattle.ba_ports.specs.Causes.{CountsFailures};
-ghost use Rattle.ba_ports.specs.Told.{TellsCall};
-ghost use Rattle.ba_ports.specs.declared.works.Outcome.TheVariants as outcome;
-ghost use Rattle.ba_ports.specs.declared.works.Task.TheVariants as task;
-ghost use Rattle.ba_ports.specs.declared.works.WorkCall.{WorkCall};
+ghost use Rattle.ba_ports_daemon.specs.Told.{TellsCall};
+ghost use Rattle.ba_ports_daemon.specs.declared.works.Outcome.TheVariants as outcome;
+ghost use Rattle.ba_ports_daemon.specs.declared.works.Task.TheVariants as task;
+ghost use Rattle.ba_ports_daemon.specs.declared.works.WorkCall.{WorkCall};
 
-use crate::failures::Failed;
 use ba_core::Id;
+use ba_ports::Failed;
 
 /// What came of a call of the work.
 #[derive(Clone, Copy, Debug, PartialEq, Eq)]

@@ -2,11 +2,10 @@
 ghost use Rattle.std.specs.Prelude.{◌≡◌, ◌≢◌, ℕ, ◌<◌, List, Option, Some, IfOk, OnErr};
 ghost use Rattle.ba_message.specs.Addresses.{IsDialable};
 ghost use Rattle.ba_ports.specs.Causes.{CountsFailures};
-ghost use Rattle.ba_ports.specs.Counts.{count_after};
-ghost use Rattle.ba_ports.specs.Told.{Remains, Gains, GivesOne, CountsOne, CountsBack, IsFresh};
+ghost use Rattle.ba_ports_daemon.specs.Told.{count_after};
+ghost use Rattle.ba_ports_daemon.specs.Told.{Remains, Gains, GivesOne, CountsOne, CountsBack, IsFresh};
 
-use crate::failures::Failed;
-use crate::links::Link;
+use ba_ports::{Failed, Link};
 
 /// What makes connections.
 pub trait Dialer {

@@ -1,10 +1,9 @@
 //! Connections that come in.
 ghost use Rattle.std.specs.Prelude.{◌≡◌, ◌≢◌, ℕ, Bool, List, Option, Some, None, Ok, IsTrue, IfOk, IfSome, OnErr};
 ghost use Rattle.ba_ports.specs.Causes.{CountsFailures};
-ghost use Rattle.ba_ports.specs.Told.{Remains, Gains, GivesNext, CountsOne, CountsBack, IsFresh};
+ghost use Rattle.ba_ports_daemon.specs.Told.{Remains, Gains, GivesNext, CountsOne, CountsBack, IsFresh};
 
-use crate::failures::Failed;
-use crate::links::Link;
+use ba_ports::{Failed, Link};
 
 /// What gives the connections that come in.
 pub trait Acceptor {

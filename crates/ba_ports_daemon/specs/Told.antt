@@ -1,11 +1,12 @@
 -- Believe: what an object tells of what it will still give, and of what was done with it, where it tells that.
-use Rattle.std.specs.Prelude.{◌≡◌, ℕ, ◌+◌, List, [], ◌∷◌, ◌++◌, Option, Some, None, Result, Ok, Err}
+use Rattle.std.specs.Prelude.{◌≡◌, ℕ, zero, suc, ◌+◌, List, [], ◌∷◌, ◌++◌, Option, Some, None, Result, Ok, Err}
 use Rattle.std.specs.Io.KnownBytes.{IsAtEnd}
 use Rattle.ba_core.specs.declared.identifiers.Id.{Id}
+use Rattle.ba_ports.specs.Counts.{risen}
 use Rattle.ba_ports.specs.declared.failures.Failed.{Failed}
-use Rattle.ba_ports.specs.declared.works.Outcome.{Outcome}
-use Rattle.ba_ports.specs.declared.works.Task.{Task}
-use Rattle.ba_ports.specs.declared.works.WorkCall.{WorkCall}
+use Rattle.ba_ports_daemon.specs.declared.works.Outcome.{Outcome}
+use Rattle.ba_ports_daemon.specs.declared.works.Task.{Task}
+use Rattle.ba_ports_daemon.specs.declared.works.WorkCall.{WorkCall}
 
 -- what is told stays as it was
 abbrev pub Remains : {A : Type 0} → Option A → Option A → Type 0
@@ -57,6 +58,11 @@ CountsBack (Some out) (Some after) = out ≡ after + 1
 pub record IsFresh (faults : ℕ) (written : Option (List ℕ)) : Type 0 where
   pub count : faults ≡ 0
   pub empty : IsAtEnd written
+
+-- a dialer's count after a link came back that has failed so often
+abbrev pub count_after : ℕ → ℕ → ℕ
+count_after count zero = count
+count_after count (suc faults) = risen count
 
 -- a call of the work that was answered is told last, and one that failed isn't told
 abbrev pub TellsCall : Option (List WorkCall) → Option (List WorkCall) → Id → Task → Result Outcome Failed → Type 0

@@ -45,7 +45,7 @@ pub struct Started<J: Job + Drop> {
 
 impl<J: Job + Drop> Model for Started<J> {
     ghost use Rattle.std.specs.Prelude.{◌≡◌};
-    ghost use Rattle.ba_ports.specs.Jobs.{OfCourse};
+    ghost use Rattle.ba_ports_daemon.specs.Jobs.{OfCourse};
 
     ghost Value = { J };
 
