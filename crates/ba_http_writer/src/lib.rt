@@ -3,7 +3,6 @@
 
 mod bodies;
 mod faults;
-mod outputs;
 mod requests;
 mod responses;
 

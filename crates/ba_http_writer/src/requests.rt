@@ -8,9 +8,8 @@ ghost use Rattle.ba_http_writer.specs.Texts.{request_text, text_to, authority_le
 
 use crate::bodies::{Body, type_line};
 use crate::faults::WriteFault;
-use crate::outputs::write_all;
 use ba_core::{Memory, Octets};
-use ba_ports::Link;
+use ba_ports::{Link, send_all};
 use itoa::Buffer;
 use std::alloc::Global;
 
@@ -35,11 +34,12 @@ pub fn write_request<K: Link>(
     ensures others { Keeps (K.left link.old) (K.left link.new) }
     ensures cause { (result ≡ Err WriteFault.Write) → Rose (K.faults link.old) (K.faults link.new) }
     ensures later { K.faults link.old ≤ K.faults link.new }
+    ensures stayed { (result ≡ Err WriteFault.Write → ⊥) → K.faults link.new ≡ K.faults link.old }
 {
     let Ok(text) = text_of_request(alloc, &address[SCHEME..], action, body) else {
         return Err(WriteFault::Memory);
     };
-    match write_all(link, text.as_slice()) {
+    match send_all(link, text.as_slice()) {
         Ok(()) => Ok(()),
         Err(_) => Err(WriteFault::Write),
     }

@@ -8,9 +8,8 @@ ghost use Rattle.ba_http_writer.specs.Texts.{response_text};
 
 use crate::bodies::{Body, type_line};
 use crate::faults::WriteFault;
-use crate::outputs::write_all;
 use ba_core::{Memory, Octets};
-use ba_ports::Link;
+use ba_ports::{Link, send_all};
 use http::StatusCode;
 use itoa::Buffer;
 use std::alloc::Global;
@@ -34,11 +33,12 @@ pub fn write_response<K: Link>(
     ensures others { Keeps (K.left link.old) (K.left link.new) }
     ensures cause { (result ≡ Err WriteFault.Write) → Rose (K.faults link.old) (K.faults link.new) }
     ensures later { K.faults link.old ≤ K.faults link.new }
+    ensures stayed { (result ≡ Err WriteFault.Write → ⊥) → K.faults link.new ≡ K.faults link.old }
 {
     let Ok(text) = text_of_response(alloc, code, kind, body) else {
         return Err(WriteFault::Memory);
     };
-    match write_all(link, text.as_slice()) {
+    match send_all(link, text.as_slice()) {
         Ok(()) => Ok(()),
         Err(_) => Err(WriteFault::Write),
     }

@@ -14,12 +14,12 @@ sent address action body text now same is = same ∙ is ∙ ap (λ v. text_to v 
 
 pub returns-clause-part : goal.returns-clause-part
 returns-clause-part g c = λ _.
-    subst (WritesPart (g.K.Link.written c.args.link.now) (g.K.Link.written c.write_all.new.link))
+    subst (WritesPart (g.K.Link.written c.args.link.now) (g.K.Link.written c.send_all.new.link))
     (sent c.args.address.now c.args.action.now c.args.body.now c.in-Ok.text c.as_slice.result.now c.as_slice.ensures c.in-Ok.ensures)
     c.in-Err.ensures.part
 
-pub returns-in-Ok-write_all-clause-request : goal.returns-in-Ok-write_all-clause-request
-returns-in-Ok-write_all-clause-request g c =
-    subst (Appends (g.K.Link.written c.args.link.now) (g.K.Link.written c.write_all.new.link))
+pub returns-in-Ok-send_all-clause-request : goal.returns-in-Ok-send_all-clause-request
+returns-in-Ok-send_all-clause-request g c =
+    subst (Appends (g.K.Link.written c.args.link.now) (g.K.Link.written c.send_all.new.link))
     (sent c.args.address.now c.args.action.now c.args.body.now c.in-Ok.text c.as_slice.result.now c.as_slice.ensures c.in-Ok.ensures)
-    c.in-Ok-write_all.ensures.all
+    c.in-Ok-send_all.ensures.all
