@@ -1,8 +1,9 @@
 -- Where the messages of a world go, and the context of a scope as it is handed in; for the clauses of messages.
-use Rattle.std.proofs.Common.{◌≡◌, ◌∙◌, ℕ, ◌^◌, ◌<◌, List, map, Option, None, Some, Ok, sym, ap, subst, arith}
+use Rattle.std.proofs.Common.{◌≡◌, ◌∙◌, ℕ, ◌^◌, ◌<◌, List, map, Option, None, Some, Result, Ok, Err, IfOk, sym, ap, subst, arith}
 use Rattle.ba_world.specs.Mails.{mail_of}
 use Rattle.ba_core.specs.Numbers.{node_of}
 use Rattle.ba_core.specs.declared.identifiers.Id.{Id}
+use Rattle.ba_core.specs.declared.memory.Memory.{Memory}
 use Rattle.ba_message.proofs.OwnEndpoints.{own_endpoint_fits}
 use Rattle.ba_message.specs.Endpoints.{Fits}
 use Rattle.ba_message.specs.declared.endpoints.Epr.{Epr}
@@ -71,6 +72,12 @@ module _ (l arrived : Letter) (same : arrived ≡ l) where
             ∙ ap (λ (a : Arrival). a.input) (goes w (Some id) id_here);
         answers = answered;
       }
+
+  pub goes_as_sent : (id : Id) (result : Result Delivery Memory) → Some id ≡ identifier_in arrived.to.address
+      → IfOk result (λ to. (w : Net) → HasBases w → Some id ≡ identifier_in arrived.to.address → IsDeliveryOf w (runs.letter arrived) to)
+      → IfOk result (λ to. (w : Net) → HasBases w → IsDeliveryOf w (runs.letter l) to)
+  goes_as_sent id (Ok to) here h = λ w bases. subst (λ (x : Letter). IsDeliveryOf w (runs.letter x) to) same (h w bases here)
+  goes_as_sent id (Err e) here h = tt
 
 -- ---- the context of a scope
 

@@ -1,5 +1,5 @@
 //! The messages of a world: where one goes, the context of a scope, and what joins the bag.
-ghost use Rattle.std.specs.Prelude.{◌≡◌, ◌+◌, ◌++◌, [], ◌∷◌, length, map, IfOk};
+ghost use Rattle.std.specs.Prelude.{◌≡◌, ◌+◌, ◌++◌, [], ◌∷◌, length, map, IfOk, Some};
 ghost use Rattle.std.specs.Option.{option_map};
 ghost use Rattle.ba_world.specs.Mails.{mail_of};
 ghost use Rattle.ba_message.specs.Letters.{IsPostable, IsReply};
@@ -8,6 +8,7 @@ ghost use Rattle.ba_world_runs.specs.World as runs;
 ghost use Rattle.ba_world_runs.specs.World.{Net};
 ghost use Rattle.ba_message.specs.Endpoints.{Fits};
 ghost use Rattle.ba_world_play.specs.Plays.{WorldOnDisks, context_handed, mail_at};
+ghost use Rattle.ba_node_steps.specs.Routing.{answer_of_reply, identifier_in};
 ghost use Rattle.ba_scope.specs.Scope.{ScopeState};
 ghost use Rattle.ba_world.specs.Worlds.{IsStageOf};
 ghost use Rattle.ba_world.specs.inside.Deliveries.{HasBases, IsDeliveryOf};
@@ -124,16 +125,24 @@ fn letter_delivery(alloc: Global, letter: &Letter) -> Result<Delivery, Memory>
     ensures { IfOk result (λ to. (w : Net) → HasBases w → IsDeliveryOf w (runs.letter letter.now) to) }
 {
     let arrived = posted(alloc, letter)?;
-    let answers = Some(arrived.number);
-    let Some(id) = identifier_in(arrived.to.address.as_slice()) else {
-        return Ok(Delivery {
+    match identifier_in(arrived.to.address.as_slice()) {
+        Some(id) => delivery_to(alloc, id, arrived),
+        None => Ok(Delivery {
             node: 0,
             input: None,
-            answers,
-        });
-    };
+            answers: Some(arrived.number),
+        }),
+    }
+}
+
+// Where a letter goes whose address ends with the text of this identifier.
+fn delivery_to(alloc: Global, id: Id, arrived: Letter) -> Result<Delivery, Memory>
+    ensures { IfOk result (λ to. (w : Net) → HasBases w → Some id ≡ identifier_in arrived.to.address
+        → IsDeliveryOf w (runs.letter arrived) to) }
+{
     let node = id.node();
     let base = base_of(alloc, node)?;
+    let answers = Some(arrived.number);
     let input = letter_input(base.as_slice(), id, arrived);
     Ok(Delivery {
         node,
