@@ -54,31 +54,31 @@ module _ (w : Net) (addressed : IsAddressed w) where
       let k : ℕ = registers.0 in
       let s : ScopeState = registers.1 in
       let here : IsHere (node_at w k) s.id = stands k s.id (scope_id w addressed k s registers.2.scope) in
-      (k, input.Register s.id _ _, here, to ∙ registers.2.names, says)
+      (k, input.Register s.id _ _, (here, to ∙ registers.2.names, says))
   letter_brings_one l (of_part j p n of number to says) =
       let keeps = coordinator_is w addressed j p l.to of to in
       let k : ℕ = keeps.0 in
       let e : End = keeps.2 in
       let here : IsHere (node_at w k) e.id = stands k e.id (end_id w addressed k keeps.1 e keeps.3.scope keeps.4.0) in
-      (k, input.Notice Coordinator e.id n, here, keeps.5, says)
+      (k, input.Notice Coordinator e.id n, (here, keeps.5, says))
   letter_brings_one l (of_end k s e n scope among number to says) =
       let owner = addressed.endpoints.ends k s e scope among in
       let j : ℕ = owner.0 in
       let p : Part = owner.1 in
       let here : IsHere (node_at w j) p.id = stands j p.id (part_id w addressed j p owner.2.part) in
-      (j, input.Notice Participant p.id n, here, to ∙ owner.3, says)
+      (j, input.Notice Participant p.id n, (here, to ∙ owner.3, says))
 
   -- an answer to a Register: a RegisterResponse at the participant that it enrolled, a fault at the one that sent the Register
   answer_brings_one : (number : Id) (m : Message) → MailFits w (answer number m) → code_part number.0 ≡ register_code
       → Brings (answer number m)
   answer_brings_one number m (of_enrolment j p k s e link has is told) code =
       let here : IsHere (node_at w j) p.id = stands j p.id (part_id w addressed j p link.part) in
-      subst (λ (x : Message). Brings (answer number x)) (sym told) (j, input.Enrolled p.id _, here, is, refl)
+      subst (λ (x : Message). Brings (answer number x)) (sym told) (j, input.Enrolled p.id _, (here, is, refl))
   answer_brings_one number m (of_fault l c sent is told apart) code =
       let sender : Id = record { 0 = sender_of number } in
       let k : ℕ = node_of (sender_of number) in
       let here : IsHere (node_at w k) sender = record { node = sym (addressed.nodes k).number; object = no_code number.0 } in
-      subst (λ (x : Message). Brings (answer number x)) (sym told) (k, input.RefusedBy sender c, here, register_number number code, refl)
+      subst (λ (x : Message). Brings (answer number x)) (sym told) (k, input.RefusedBy sender c, (here, register_number number code, refl))
 
 pub leads_nowhere : (w : Net) (number : Id) (m : Message) → code_part number.0 ≢ register_code → (arrival w (answer number m)).input ≡ None
 leads_nowhere w number m other =
