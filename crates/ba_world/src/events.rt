@@ -15,6 +15,7 @@ ghost use Rattle.ba_world.specs.inside.Shown.{is_child, next_made};
 ghost use Rattle.ba_world.specs.inside.Stages.{AreMade, IsCalled, IsContextNamed, IsLetterAt, IsNotCalled, IsReplyAt, IsStaged, StagePlays, arm_at, crash_at, lost_at, node_call_at, open_at, tick_at, wait_at};
 
 use crate::faults::StepFault;
+use crate::mails::Mail;
 use crate::messages::Delivery;
 use crate::outcomes::{Makes, answer_outcome, label_of};
 use crate::stages::Stage;
