@@ -93,7 +93,7 @@ some_in node row n q d is = elim (in_or_out node n q) [
 set_due_at : (node : ℕ) (row row' : ℕ → Option Due) (n k : ℕ) (v : Option Due) → k < n → row' k ≡ v → ((c : ℕ) → (c ≡ k → ⊥) → row' c
     ≡ row c)
     → (c : ℕ) → c < n → map.get (dues_below node row' n) (id_of node c) ≡ map.get (due_with (dues_below node row n) (id_of node k) v)
-        (id_of node c)
+    (id_of node c)
 set_due_at node row row' n k v low is same c c_low =
     let m : Dues = dues_below node row n in
     elim (cases_eq c k) as (λ _. map.get (dues_below node row' n) (id_of node c) ≡ map.get (due_with m (id_of node k) v) (id_of node c)) [

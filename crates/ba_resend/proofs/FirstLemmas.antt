@@ -137,14 +137,14 @@ not_before t s more e root j d is =
           let order : IsNotAfter (node_at t 1) (node_at t (half t + j)) =
           root_not_after (length t) t s (half t + j) (omega (arith, s.even)) (omega (arith, s.even)) (omega (arith, s.even)) in
           bounds e (record { place = j; due = d }) (subst (λ y. IsNotAfter (Some e) y) entry (subst (λ y. IsNotAfter y (node_at t
-              (half t + j))) root order)))
+          (half t + j))) root order)))
       | inr past ↦ none_some d (sym (ap due_in (get_or_past t (half t + j) None (omega (arith, s.even)))) ∙ node)
     ]
 
 is_some : (t : List (Option Entry)) → IsTournament t → 1 < length t → (e : Entry) → node_at t 1 ≡ Some e → IsFirst (slots_of t) e
 is_some t s more e root =
     let found : (j : ℕ) × (j < half t) × (node_at t (half t + j) ≡ node_at t 1) = place_of_node (length t) t s 1 (omega arith)
-        (omega arith) more in
+    (omega arith) more in
     let entry : node_at t (half t + found.0) ≡ Some e = found.2 ∙ root in
     let placed : node_at t (half t + found.0) ≡ entry_at found.0 (due_in (node_at t (half t + found.0))) = s.placed found.0 found.1 in
     let whole : ◌≡◌ {A = Option Entry} (Some e) (Some (record { place = found.0; due = e.due })) =

@@ -52,11 +52,11 @@ share_len : (shares : Shares) (k p : ℕ) (v : Option Due) (s : ℕ) → k < len
     → length (get_or (set shares k (set (get_or shares k []) p v)) s []) ≡ length (get_or shares s [])
 share_len shares k p v s low = elim (cases_eq s k) as (λ _. length (get_or (set shares k (set (get_or shares k []) p v)) s []) ≡ length
     (get_or shares s [])) [
-  | inl e ↦ ap (λ j. length (get_or (set shares k (set (get_or shares k []) p v)) j [])) e
-      ∙ ap length (get_or-set_same shares k (set (get_or shares k []) p v) [] low)
-      ∙ length-set (get_or shares k []) p v ∙ sym (ap (λ j. length (get_or shares j [])) e)
-  | inr ne ↦ ap length (get_or-set_other shares k s (set (get_or shares k []) p v) [] ne)
-]
+      | inl e ↦ ap (λ j. length (get_or (set shares k (set (get_or shares k []) p v)) j [])) e
+          ∙ ap length (get_or-set_same shares k (set (get_or shares k []) p v) [] low)
+          ∙ length-set (get_or shares k []) p v ∙ sym (ap (λ j. length (get_or shares j [])) e)
+      | inr ne ↦ ap length (get_or-set_other shares k s (set (get_or shares k []) p v) [] ne)
+    ]
 
 pub set_fits : (shares : Shares) (room c : ℕ) (v : Option Due) → FitsRoom shares room → c < room → FitsRoom
     (shares_with_row shares c v) room
@@ -71,8 +71,13 @@ set_fits shares room c v f low =
     }
 
 same_planned : (node s s' r r' : ℕ) (d d' : Dues) → s ≡ s' → r ≡ r' → d ≡ d'
-    → ◌≡◌ {A = Planned} (record { node = node; senders = s; room = r; due = d }) (record { node = node; senders = s'; room = r'; due =
-        d' })
+    → ◌≡◌ {A = Planned} (record { node = node; senders = s; room = r; due = d }) (record {
+      node = node;
+      senders = s';
+      room = r';
+      due =
+          d';
+    })
 same_planned node s s' r r' d d' p q e = λ i. record { node = node; senders = p i; room = q i; due = e i }
 
 pub set_planned : (node room : ℕ) (shares : Shares) (id : ℕ) (v : Option Due) → FitsRoom shares room → HasRoom
@@ -102,8 +107,13 @@ get_nowhere node room shares id f out = get_out node (row_at shares) room id (λ
     out (record { own = is ∙ sym (ap (id_of node) same); below = subst (λ k. k < room) (sym same) low }))
 
 pub quiet_planned : (node room : ℕ) (shares : Shares) (id : ℕ) → FitsRoom shares room → (HasRoom (planned_of node room shares) id → ⊥)
-    → planned_of node room shares ≡ record { node = node; senders = length shares; room = room; due = map.remove (dues_below node
-        (row_at shares) room) id }
+    → planned_of node room shares ≡ record {
+      node = node;
+      senders = length shares;
+      room = room;
+      due = map.remove (dues_below node
+          (row_at shares) room) id;
+    }
 quiet_planned node room shares id f out =
     same_planned node _ _ room room _ _ refl refl (sym (remove_absent _ id (get_nowhere node room shares id f out)))
 
@@ -146,11 +156,16 @@ pub grown_planned : (node room : ℕ) (old new : Shares) → HaveGrown old new �
     ≡ planned_of node room old
 grown_planned node room old new g f =
     same_planned node _ _ room room _ _ g.senders refl (wider_due node (row_at old) (row_at new) room room (omega arith)
-        (row_grown old new g) f.beyond)
+    (row_grown old new g) f.beyond)
 
 pub roomier_planned : (node room last : ℕ) (old new : Shares) → HaveGrown old new → FitsRoom old room → room ≤ last
-    → planned_of node (last + 1) new ≡ record { node = node; senders = length old; room = max room (last + 1); due = dues_below node
-        (row_at old) room }
+    → planned_of node (last + 1) new ≡ record {
+      node = node;
+      senders = length old;
+      room = max room (last + 1);
+      due = dues_below node
+          (row_at old) room;
+    }
 roomier_planned node room last old new g f more =
     same_planned node _ _ (last + 1) (max room (last + 1)) _ _ g.senders (omega arith)
     (wider_due node (row_at old) (row_at new) room (last + 1) (omega arith) (row_grown old new g) f.beyond)
@@ -169,7 +184,7 @@ pub none_next : (node room : ℕ) (shares : Shares) (share now : ℕ) → FitsRo
     → ((j : ℕ) → slot (get_or shares share []) j ≡ None) → IsNoneDue (dues_below node (row_at shares) room) (length shares) share now
 none_next node room shares share now f none other d is served =
     let place : (c : ℕ) × (other ≡ id_of node c) × (c % length shares ≡ share) × (slot (get_or shares share []) (c / length shares)
-        ≡ Some d) =
+    ≡ Some d) =
     served_place node room shares share f other d is served in
     absurd (let e : ◌≡◌ {A = Option Due} None (Some d) = sym (none (place.0 / length shares)) ∙ place.3 in let h : ⊥ = cc in h)
 
@@ -177,7 +192,7 @@ pub later_next : (node room : ℕ) (shares : Shares) (share now : ℕ) (e : Entr
     → IsFirst (get_or shares share []) e → now < e.due.moment → IsNoneDue (dues_below node (row_at shares) room) (length shares) share now
 later_next node room shares share now e f first later other d is served =
     let place : (c : ℕ) × (other ≡ id_of node c) × (c % length shares ≡ share) × (slot (get_or shares share []) (c / length shares)
-        ≡ Some d) =
+    ≡ Some d) =
     served_place node room shares share f other d is served in
     omega (arith, first.least (place.0 / length shares) d place.3)
 
@@ -223,7 +238,7 @@ first_next node room shares share now e id f low first past is =
           let place : (k : ℕ) × (other ≡ id_of node k) × (k % n ≡ share) × (slot (get_or shares share []) (k / n) ≡ Some d) =
           served_place node room shares share f other d planned served in
           let order : id_of node c ≤ id_of node place.0 = lower_id node e.place n share place.0 place.2 (first.lowest
-              (place.0 / n) d place.3 same) in
+          (place.0 / n) d place.3 same) in
           subst (λ q. id ≤ q) (sym place.1) (subst (λ q. q ≤ id_of node place.0) (sym is) order);
     }
 

@@ -44,7 +44,7 @@ settled_there : (t : List (Option Entry)) (i k : ℕ) (x : Option Entry) → (k 
 settled_there t i k x n a b e =
     elsewhere t i k x n ∙ e
     ∙ sym (ap (λ y. first_of y (node_at (set t i x) (2 * k + 1))) (elsewhere t i (2 * k) x a) ∙ ap (first_of (node_at t (2 * k)))
-        (elsewhere t i (2 * k + 1) x b))
+    (elsewhere t i (2 * k + 1) x b))
 
 placed_there : (t : List (Option Entry)) (i j : ℕ) (x : Option Entry) → (half t + j ≡ i → ⊥)
     → node_at t (half t + j) ≡ entry_at j (due_in (node_at t (half t + j)))
@@ -133,7 +133,7 @@ turn_settled t i a b x e s pos low =
     let one : get_or t (2 * i) a ≡ node_at t (2 * i) = get_or_default t (2 * i) a None (omega (arith, s.even)) in
     let other : get_or t (2 * i + 1) b ≡ node_at t (2 * i + 1) = get_or_default t (2 * i + 1) b None (omega (arith, s.even)) in
     let is : x ≡ first_of (node_at t (2 * i)) (node_at t (2 * i + 1)) = e ∙ ap (λ y. first_of y (get_or t (2 * i + 1) b)) one ∙ ap
-        (first_of (node_at t (2 * i))) other in
+    (first_of (node_at t (2 * i))) other in
     subst (λ y. IsSettledBut (set t i y) (i / 2)) (sym is) (settle_node t i s pos low)
 
 pub turn_below : (t : List (Option Entry)) (i : ℕ) (x : Option Entry) → i < half t → i / 2 < half (set t i x)

@@ -72,6 +72,21 @@ impl Plan {
         Ok(())
     }
 
+    /// The number of the node whose objects the plan speaks of.
+    pub fn node(&self) -> u32
+        ensures { result ≡ self.now.node }
+    {
+        self.node
+    }
+
+    /// How many senders share the objects. There is at least one.
+    pub fn senders(&self) -> usize
+        ensures count { result ≡ self.now.senders }
+        ensures some { 0 < result }
+    {
+        self.shares.len()
+    }
+
     /// Whether there is room for what is due of this object.
     pub fn has_room(&self, id: Id) -> bool
         ensures { IsTrue result ↔ HasRoom self.now id.0 }

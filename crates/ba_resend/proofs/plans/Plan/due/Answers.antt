@@ -18,6 +18,6 @@ pub returns-else-has_room : goal.returns-else-has_room
 returns-else-has_room c =
     sym (get_nowhere c.self.inside.node c.self.inside.room c.self.inside.shares.items c.args.id.0 c.self.invariant
     (λ h. (let r : HasRoom c.args.self.now c.args.id.0 = subst
-        (λ p. HasRoom p c.args.id.0) c.self.view_is h in let yes : c.has_room.result ≡ true = c.has_room.ensures.1 r in let h : ⊥ =
-        cc in h)))
+    (λ p. HasRoom p c.args.id.0) c.self.view_is h in let yes : c.has_room.result ≡ true = c.has_room.ensures.1 r in let h : ⊥ =
+    cc in h)))
     ∙ ap (λ (p : Planned). map.get p.due c.args.id.0) c.self.view_is

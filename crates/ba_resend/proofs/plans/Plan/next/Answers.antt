@@ -9,7 +9,7 @@ use Rattle.ba_resend.proofs.plans.Plan.next.Goals as goal
 pub returns-in_default : goal.returns-in_default
 returns-in_default c =
     let low : c.args.share < length c.self.inside.shares.items = subst (λ (p : Planned). c.args.share < p.senders)
-        (sym c.self.view_is) c.requires in
+    (sym c.self.view_is) c.requires in
     let is : c.index.result.now ≡ get_or c.self.inside.shares.items c.args.share [] =
     c.index.ensures ∙ get_or_default c.self.inside.shares.items c.args.share c.index.result.now [] low in
     let h : (j : ℕ) → slot c.index.result.now j ≡ None = c.in_default.ensures in
@@ -20,22 +20,22 @@ returns-in_default c =
 pub returns-then-now-first : goal.returns-then-now-first
 returns-then-now-first c =
     let low : c.args.share < length c.self.inside.shares.items = subst (λ (p : Planned). c.args.share < p.senders)
-        (sym c.self.view_is) c.requires in
+    (sym c.self.view_is) c.requires in
     let is : c.index.result.now ≡ get_or c.self.inside.shares.items c.args.share [] =
     c.index.ensures ∙ get_or_default c.self.inside.shares.items c.args.share c.index.result.now [] low in
     let first : IsFirst (get_or c.self.inside.shares.items c.args.share []) c.in-Some.first = subst
-        (λ s. IsFirst s c.in-Some.first) is c.in-Some.ensures in
+    (λ s. IsFirst s c.in-Some.first) is c.in-Some.ensures in
     subst (λ (p : Planned). IsNoneDue p.due p.senders c.args.share c.args.now) c.self.view_is
     (later_next c.self.inside.node c.self.inside.room c.self.inside.shares.items c.args.share c.args.now c.in-Some.first c.self.invariant first c.if-now-first.true)
 
 pub overflow_mul-first : goal.overflow_mul-first
 overflow_mul-first c =
     let low : c.args.share < length c.self.inside.shares.items = subst (λ (p : Planned). c.args.share < p.senders)
-        (sym c.self.view_is) c.requires in
+    (sym c.self.view_is) c.requires in
     let is : c.index.result.now ≡ get_or c.self.inside.shares.items c.args.share [] =
     c.index.ensures ∙ get_or_default c.self.inside.shares.items c.args.share c.index.result.now [] low in
     let first : IsFirst (get_or c.self.inside.shares.items c.args.share []) c.in-Some.first = subst
-        (λ s. IsFirst s c.in-Some.first) is c.in-Some.ensures in
+    (λ s. IsFirst s c.in-Some.first) is c.in-Some.ensures in
     let below : c.in-Some.first.place * length c.self.inside.shares.items + c.args.share < c.self.inside.room =
     first_fits c.self.inside.shares.items c.self.inside.room c.args.share c.in-Some.first c.self.invariant low first in
     let len : c.len-senders.result ≡ length c.self.inside.shares.items = omega (arith, c.len-senders.ensures) in
@@ -46,11 +46,11 @@ overflow_mul-first c =
 pub overflow_add-first : goal.overflow_add-first
 overflow_add-first c =
     let low : c.args.share < length c.self.inside.shares.items = subst (λ (p : Planned). c.args.share < p.senders)
-        (sym c.self.view_is) c.requires in
+    (sym c.self.view_is) c.requires in
     let is : c.index.result.now ≡ get_or c.self.inside.shares.items c.args.share [] =
     c.index.ensures ∙ get_or_default c.self.inside.shares.items c.args.share c.index.result.now [] low in
     let first : IsFirst (get_or c.self.inside.shares.items c.args.share []) c.in-Some.first = subst
-        (λ s. IsFirst s c.in-Some.first) is c.in-Some.ensures in
+    (λ s. IsFirst s c.in-Some.first) is c.in-Some.ensures in
     let below : c.in-Some.first.place * length c.self.inside.shares.items + c.args.share < c.self.inside.room =
     first_fits c.self.inside.shares.items c.self.inside.room c.args.share c.in-Some.first c.self.invariant low first in
     let len : c.len-senders.result ≡ length c.self.inside.shares.items = omega (arith, c.len-senders.ensures) in
@@ -61,11 +61,11 @@ overflow_add-first c =
 pub returns : goal.returns
 returns c =
     let low : c.args.share < length c.self.inside.shares.items = subst (λ (p : Planned). c.args.share < p.senders)
-        (sym c.self.view_is) c.requires in
+    (sym c.self.view_is) c.requires in
     let is : c.index.result.now ≡ get_or c.self.inside.shares.items c.args.share [] =
     c.index.ensures ∙ get_or_default c.self.inside.shares.items c.args.share c.index.result.now [] low in
     let first : IsFirst (get_or c.self.inside.shares.items c.args.share []) c.in-Some.first = subst
-        (λ s. IsFirst s c.in-Some.first) is c.in-Some.ensures in
+    (λ s. IsFirst s c.in-Some.first) is c.in-Some.ensures in
     let len : c.len-senders.result ≡ length c.self.inside.shares.items = omega (arith, c.len-senders.ensures) in
     subst (λ (p : Planned). IsLeastDue p.due p.senders c.args.share c.args.now c.of.result.0) c.self.view_is
     (first_next c.self.inside.node c.self.inside.room c.self.inside.shares.items c.args.share c.args.now c.in-Some.first c.of.result.0

@@ -15,5 +15,10 @@ returns c =
     ∙ ap (λ k. shares_with_row c.self.inside.shares.items k c.args.due) c.counter.ensures in
     ap (planned_of c.self.inside.node c.self.inside.room) (with_items_is c.self.inside.shares c.set_row.new.shares (search rules) ∙ same)
     ∙ set_planned c.self.inside.node c.self.inside.room c.self.inside.shares.items c.args.id.0 c.args.due c.self.invariant has
-    ∙ ap (λ (p : Planned). record { node = p.node; senders = p.senders; room = p.room; due =
-        due_with p.due c.args.id.0 c.args.due }) c.self.view_is
+    ∙ ap (λ (p : Planned). record {
+      node = p.node;
+      senders = p.senders;
+      room = p.room;
+      due =
+          due_with p.due c.args.id.0 c.args.due;
+    }) c.self.view_is
