@@ -26,7 +26,7 @@ use Rattle.ba_ports.specs.Disk.{LeavesOnly, nothing}
 use Rattle.ba_ports.specs.declared.images.Image.{Image}
 use Rattle.ba_ports.specs.declared.requests.Call.{Call}
 use Rattle.ba_record.specs.declared.records.Record.{Record}
-use Rattle.ba_world_runs.specs.World.{Occasion, WorldNode, delivers, is_closed, is_down, own, ticks}
+use Rattle.ba_world_runs.specs.World.{formats, Occasion, WorldNode, delivers, is_closed, is_down, own, ticks}
 use Rattle.ba_world_runs.specs.WorldSteps.{effect}
 use Rattle.ba_node_steps.specs.Fits.{HasSpareCounters}
 use Rattle.ba_node_steps.specs.Lawful.{Change}
@@ -43,6 +43,7 @@ input_writes n now i (own moment j) is =
 input_writes n now i (delivers moment mail j) is =
     ap (λ (m : ℕ). (node_step n m j).written) is.0 ∙ ap (λ (x : Input). (node_step n now x).written) is.1
 input_writes n now i (ticks moment id) is = absurd is
+input_writes n now i formats is = absurd is
 
 pub input_after : (n : NodeState) (now : ℕ) (i : Input) (o : Occasion) → IsOfInput now i o
     → (effect n o).after ≡ (node_step n now i).after
@@ -51,6 +52,7 @@ input_after n now i (own moment j) is =
 input_after n now i (delivers moment mail j) is =
     ap (λ (m : ℕ). (node_step n m j).after) is.0 ∙ ap (λ (x : Input). (node_step n now x).after) is.1
 input_after n now i (ticks moment id) is = absurd is
+input_after n now i formats is = absurd is
 
 -- ---- a call as a place has it
 

@@ -17,7 +17,7 @@ use Rattle.ba_ports.specs.Disk.{Armament}
 use Rattle.ba_record.specs.Coding.{InRange}
 use Rattle.ba_record.specs.declared.records.Record.{Record}
 use Rattle.ba_world_runs.specs.Safety.{IsItsRecords}
-use Rattle.ba_world_runs.specs.World.{Mail, Mode, Occasion, WorldNode, delivers, is_closed, is_down, is_up, net_of, own, ticks}
+use Rattle.ba_world_runs.specs.World.{formats, Mail, Mode, Occasion, WorldNode, delivers, is_closed, is_down, is_up, net_of, own, ticks}
 use Rattle.ba_world_runs.specs.WorldSteps.{IsPossible, effect}
 use Rattle.ba_node_steps.proofs.InRange.{in_range}
 use Rattle.ba_node_steps.specs.Fits.{HasSpareCounters}
@@ -55,6 +55,7 @@ written_is : (n : NodeState) (o : Occasion) → (effect n o).written ≡ (change
 written_is n (own now i) = refl
 written_is n (delivers now m i) = refl
 written_is n (ticks now id) = refl
+written_is n formats = refl
 
 -- what a possible occasion writes is in the ranges of records
 kept_in_range : (p : WorldOnDisks) → IsItsRecords p.world → CanPost p.world → (k : ℕ) (o : Occasion) → IsPossible (net_of p.world) k o

@@ -15,7 +15,7 @@ use Rattle.ba_world_play.specs.Outcomes.{delivery_outcome, made_outcome, occasio
 use Rattle.ba_world_play.specs.SafeStories.{IsInPlace}
 use Rattle.ba_world_runs.proofs.InPlace.{notices_in_place}
 use Rattle.ba_world_runs.specs.Safety.{IsSound}
-use Rattle.ba_world_runs.specs.World.{Mail, Net, Occasion, answer, delivers, letter, node_at, own, ticks}
+use Rattle.ba_world_runs.specs.World.{formats, Mail, Net, Occasion, answer, delivers, letter, node_at, own, ticks}
 use Rattle.ba_world_runs.specs.WorldSteps.{BringsInput, IsPossible, answer_to, effect}
 use Rattle.ba_scope.proofs.Lists.{by_test}
 use Rattle.ba_scope.specs.Rules.{enrol_refusal}
@@ -110,3 +110,4 @@ occasion_in_place w sound k (delivers now m i) possible number =
     (subst (λ (x : Mail). BringsInput (node_at w k) x i) same possible.1))
 occasion_in_place w sound k (ticks now id) possible number =
     tick_is_none number (option_map letter (tick_step (node_at w k) now id).letter)
+occasion_in_place w sound k formats possible number = tick_is_none number None

@@ -31,7 +31,7 @@ use Rattle.ba_world_play.specs.Posting.{CanBePosted, CanPost, occasion_event}
 use Rattle.ba_world_runs.proofs.Nets.{net_moves}
 use Rattle.ba_world_runs.proofs.Senders.{no_register}
 use Rattle.ba_world_runs.specs.Safety.{IsItsRecords}
-use Rattle.ba_world_runs.specs.World.{Mail, Net, Occasion, ScopeAt, World, answer, delivers, letter, net_of, node_at, own, ticks}
+use Rattle.ba_world_runs.specs.World.{formats, Mail, Net, Occasion, ScopeAt, World, answer, delivers, letter, net_of, node_at, own, ticks}
 use Rattle.ba_world_runs.specs.WorldSteps.{BringsInput, IsOwn, IsPossible, IsRegistration, Moves, WorldStep, answer_to, effect}
 use Rattle.ba_scope.proofs.Lists.{by_test}
 use Rattle.ba_scope_ends.specs.Ends.{end_after_row, end_of}
@@ -247,6 +247,7 @@ module _ (w : World) (records : IsItsRecords w) (can : CanPost w) where
   occasion_gives k (own now i) possible = own_gives k now i possible
   occasion_gives k (delivers now m i) possible = brought_gives k now m i possible.0 possible.1
   occasion_gives k (ticks now id) possible = tt
+  occasion_gives k formats possible = tt
 
   -- ---- a step of one node
 
@@ -267,6 +268,7 @@ module _ (w : World) (records : IsItsRecords w) (can : CanPost w) where
     after_is (own now i) = refl
     after_is (delivers now m i) = refl
     after_is (ticks now id) = refl
+    after_is formats = refl
 
     after_base : after.base ≡ node_base k
     after_base = ap (λ (x : NodeState). x.base) (after_is o) ∙ (step_keeps n (occasion_event o)).base ∙ can.bases k
@@ -290,6 +292,7 @@ module _ (w : World) (records : IsItsRecords w) (can : CanPost w) where
 
     sent_posted : (o : Occasion) → IsPossible (net_of w) k o → (m : Mail) → (effect n o).sends ≡ Some m → CanBePosted m
     sent_posted (own now i) possible m is = absurd cc
+    sent_posted formats possible m is = absurd cc
     sent_posted (delivers now sent i) possible m is = delivery_posted now sent i possible.1 m is
     sent_posted (ticks now id) possible m is = tick_posted now id (tick_step n now id).letter refl m is
 

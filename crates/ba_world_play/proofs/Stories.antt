@@ -23,11 +23,11 @@ use Rattle.ba_world_runs.proofs.Recorded.{run_keeps}
 use Rattle.ba_world_runs.proofs.SoundRuns.{safe_run, sound_run}
 use Rattle.ba_world_runs.specs.Runs.{IsFirstWorld, IsRun, goes_on, starts}
 use Rattle.ba_world_runs.specs.Safety.{IsItsRecords, IsSafe}
-use Rattle.ba_world_runs.specs.World.{Net, Occasion, World, delivers, net_of, node_at, own, ticks}
+use Rattle.ba_world_runs.specs.World.{formats, Net, Occasion, World, delivers, net_of, node_at, own, ticks}
 use Rattle.ba_world_runs.specs.WorldSteps.{Moves, WorldStep, effect}
 use Rattle.ba_node_steps.proofs.StepsFit.{step_makes_few}
 use Rattle.ba_node_steps.specs.Fits.{HasSpareCounters, NodeFits}
-use Rattle.ba_node_steps.specs.Lawful.{given, ticked}
+use Rattle.ba_node_steps.specs.Lawful.{formatted, given, ticked}
 use Rattle.ba_node_steps.specs.Node.{NodeState, last}
 
 -- ---- each step makes two objects at most
@@ -36,6 +36,7 @@ few_made : (n : NodeState) (o : Occasion) → HasSpareCounters n → NodeFits n 
 few_made n (own now i) room fits = step_makes_few n (given now i) room fits
 few_made n (delivers now m i) room fits = step_makes_few n (given now i) room fits
 few_made n (ticks now id) room fits = step_makes_few n (ticked now id) room fits
+few_made n formats room fits = step_makes_few n formatted room fits
 
 few_moved : (w w2 : Net) (k : ℕ) (o : Occasion) (joined : Bool) → Moves w w2 k o joined → NodeFits (node_at w k) → (j : ℕ)
     → last (node_at w2 j) ≤ last (node_at w j) + 2

@@ -8,7 +8,7 @@ use Rattle.ba_world_events.specs.declared.outcomes.Outcome.{Outcome}
 use Rattle.ba_world_events.specs.declared.outcomes.Outcome.TheVariants as outcome
 use Rattle.ba_message.specs.declared.messages.Message.{Message}
 use Rattle.ba_message.specs.declared.messages.Message.TheVariants as message
-use Rattle.ba_world_runs.specs.World.{Mail, Occasion, answer, delivers, letter, own, ticks}
+use Rattle.ba_world_runs.specs.World.{formats, Mail, Occasion, answer, delivers, letter, own, ticks}
 use Rattle.ba_node_steps.specs.Node.{NodeState, next_id}
 use Rattle.ba_node_steps.specs.Steps.{node_step}
 use Rattle.ba_node_steps.specs.declared.answers.Reply.{Reply}
@@ -63,3 +63,4 @@ abbrev pub occasion_outcome : ℕ → NodeState → Occasion → Option Mail →
 occasion_outcome number n (own now i) sends = reply_outcome n i (node_step n now i).reply
 occasion_outcome number n (delivers now mail i) sends = delivery_outcome number sends (reply_outcome n i (node_step n now i).reply)
 occasion_outcome number n (ticks now id) sends = tick_outcome number sends
+occasion_outcome number n formats sends = outcome.Quiet

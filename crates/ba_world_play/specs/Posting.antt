@@ -2,9 +2,9 @@
 use Rattle.std.specs.Prelude.{◌≡◌, ℕ}
 use Rattle.ba_message.specs.Letters.{IsPostable, IsReply}
 use Rattle.ba_world_play.specs.Plays.{node_base}
-use Rattle.ba_world_runs.specs.World.{Mail, Occasion, World, answer, delivers, letter, own, ticks}
+use Rattle.ba_world_runs.specs.World.{formats, Mail, Occasion, World, answer, delivers, letter, own, ticks}
 use Rattle.ba_node_steps.specs.Endpoints.{AllReachable}
-use Rattle.ba_node_steps.specs.Lawful.{Event, given, ticked}
+use Rattle.ba_node_steps.specs.Lawful.{Event, formatted, given, ticked}
 use Rattle.ba_node_steps.specs.Node.{Among}
 
 -- a letter, or an answer to one
@@ -23,3 +23,4 @@ abbrev pub occasion_event : Occasion → Event
 occasion_event (own now i) = given now i
 occasion_event (delivers now m i) = given now i
 occasion_event (ticks now id) = ticked now id
+occasion_event formats = formatted
