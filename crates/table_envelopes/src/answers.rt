@@ -1,25 +1,37 @@
 //! The answers to rows: what envelopes mean, why they are refused, and what is written of them.
 ghost use Rattle.std.specs.Prelude.{IsTrue};
-ghost use Rattle.ba_wire.specs.Envelopes.{CanEncode, HasEnvelope, is_known};
+ghost use Rattle.ba_wire.specs.Envelopes.{CanEncode, CanEncodeLetter, HasEnvelope, is_known};
 
 use crate::rows::envelope_bytes;
 use ba_core::{Kind, Notice, Protocol, name_of};
-use ba_message::{Context, Message};
+use ba_message::{Context, Epr, Message};
 use ba_soap::{Header, SoapFault};
-use ba_wire::{Decoded, Route, WireFault, envelope_tree, is_known};
-use ba_wire_short::{decode, encode};
+use ba_wire::{Decoded, Route, WireFault, envelope_tree, is_known, letter_tree};
+use ba_wire_short::{decode, encode, encode_letter};
 use ba_xml::writable;
 use rows_of_trees::{
     put_bytes, put_context, put_endpoint, put_expiry, put_kind, put_named, put_trees,
+    shown_endpoint,
 };
 use std::alloc::{AllocError, Global};
 
 /// The answer to a row.
 pub fn answer(alloc: Global, row: &str) -> Result<String, AllocError> {
-    match row.strip_prefix("text: ") {
-        None => meaning(alloc, envelope_bytes(alloc, row)?.as_slice()),
-        Some(envelope) => canonical(alloc, envelope_bytes(alloc, envelope)?.as_slice()),
+    if let Some(envelope) = row.strip_prefix("text: ") {
+        return canonical(alloc, envelope_bytes(alloc, envelope)?.as_slice());
     }
+    match letter_in(row) {
+        None => meaning(alloc, envelope_bytes(alloc, row)?.as_slice()),
+        Some((source, envelope)) => {
+            let bytes = envelope_bytes(alloc, envelope)?;
+            letter(alloc, source, bytes.as_slice())
+        }
+    }
+}
+
+/// The endpoint and the envelope of a row that asks for a letter.
+fn letter_in(row: &str) -> Option<(&str, &str)> {
+    row.strip_prefix("letter: ")?.split_once(" of ")
 }
 
 /// What an envelope means, or why it is refused.
@@ -38,6 +50,20 @@ fn canonical(alloc: Global, bytes: &[u8]) -> Result<String, AllocError> {
     match decode(alloc, bytes) {
         Err(fault) => put_wire_fault(fault, &mut out)?,
         Ok(decoded) => put_canonical(alloc, &decoded, &mut out)?,
+    }
+    Ok(out)
+}
+
+/// The canonical text of the letter of what an envelope means, from an endpoint as answers show it, or why it is refused.
+fn letter(alloc: Global, source: &str, bytes: &[u8]) -> Result<String, AllocError> {
+    let mut out = String::new(alloc);
+    let Some(source) = shown_endpoint(alloc, source.as_bytes())? else {
+        out.push_str("no endpoint")?;
+        return Ok(out);
+    };
+    match decode(alloc, bytes) {
+        Err(fault) => put_wire_fault(fault, &mut out)?,
+        Ok(decoded) => put_letter(alloc, &source, &decoded, &mut out)?,
     }
     Ok(out)
 }
@@ -67,6 +93,44 @@ fn put_text_of(alloc: Global, decoded: &Decoded, out: &mut String) -> Result<(),
     requires { CanEncode decoded.now.route decoded.now.message }
 {
     match encode(alloc, &decoded.route, &decoded.message) {
+        Err(_) => Err(AllocError),
+        Ok(text) => put_bytes(text.as_slice(), out),
+    }
+}
+
+/// Appends the canonical text of a letter from an endpoint, or why there is none.
+fn put_letter(
+    alloc: Global,
+    source: &Epr,
+    decoded: &Decoded,
+    out: &mut String,
+) -> Result<(), AllocError>
+    requires { IsTrue (is_known decoded.now.message) → HasEnvelope decoded.now.route decoded.now.message }
+{
+    if !is_known(&decoded.message) {
+        return out.push_str("unknown");
+    }
+    match letter_tree(alloc, source, &decoded.route, &decoded.message) {
+        Err(_) => Err(AllocError),
+        Ok(tree) => {
+            if !writable(&tree) {
+                return out.push_str("unwritable");
+            }
+            put_letter_text(alloc, source, decoded, out)
+        }
+    }
+}
+
+/// Appends the canonical text of a letter from an endpoint.
+fn put_letter_text(
+    alloc: Global,
+    source: &Epr,
+    decoded: &Decoded,
+    out: &mut String,
+) -> Result<(), AllocError>
+    requires { CanEncodeLetter source.now decoded.now.route decoded.now.message }
+{
+    match encode_letter(alloc, source, &decoded.route, &decoded.message) {
         Err(_) => Err(AllocError),
         Ok(text) => put_bytes(text.as_slice(), out),
     }

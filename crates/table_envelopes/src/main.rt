@@ -8,6 +8,8 @@
 //! - `parts: CONTENT`, which stands for an envelope of this content, with the same prefixes;
 //! - `text: ` and one of these. The answer is the canonical text of what it means; `unknown` where it names what isn't
 //!   known; `unwritable` where that text would go past the limits; or the refusal;
+//! - `letter: ENDPOINT of ` and one of the first three. The answer is the canonical text of the letter of what it means, from
+//!   this endpoint, as answers show endpoints; or one of the same words, or the refusal;
 //! - `# ` and a heading, which has no answer.
 //!
 //! What an envelope means is the name of its message; the texts of To, MessageID and RelatesTo and the reference

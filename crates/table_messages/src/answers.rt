@@ -54,6 +54,8 @@ fn put_message_answer(
         envelopes::put_notice(alloc, written, out)
     } else if form == "message" {
         envelopes::put_message(alloc, written, out)
+    } else if form == "action" {
+        envelopes::put_action(alloc, written, out)
     } else if form == "text" {
         envelopes::put_element_text(alloc, written, out)
     } else if form == "check" {

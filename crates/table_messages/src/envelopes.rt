@@ -5,7 +5,8 @@ use ba_message::{Letter, Message};
 use ba_soap_shapes::text_of;
 use ba_tree::Tree;
 use ba_wire::{
-    Decoded, Route, WireFault, decode, decode_tree, envelope_tree, message_name, route_of,
+    Decoded, Route, WireFault, action_of, decode, decode_tree, envelope_tree, message_name,
+    route_of,
 };
 use ba_xml::{XmlFault, read, writable};
 use rows_of_trees::{put_bytes, put_named, put_text, put_trees, shown_endpoint};
@@ -91,6 +92,14 @@ pub fn put_message(alloc: Global, text: &[u8], out: &mut String) -> Result<(), A
     match decode(alloc, text) {
         Err(fault) => put_fault(fault, out),
         Ok(decoded) => put_decoded(&decoded, out),
+    }
+}
+
+/// Appends the action of the message that a text means.
+pub fn put_action(alloc: Global, text: &[u8], out: &mut String) -> Result<(), AllocError> {
+    match decode(alloc, text) {
+        Err(fault) => put_fault(fault, out),
+        Ok(decoded) => put_bytes(action_of(&decoded.message), out),
     }
 }
 

@@ -10,6 +10,7 @@
 //! - `route: NUMBER ENDPOINT`. The answer is the route of a letter with this number to this endpoint;
 //! - `notice: Close`. The answer is the message and its To, as read from the tree of an envelope made of it, which has to be writable;
 //! - `message: TEXT`. The answer is the message that the text means, and its To;
+//! - `action: TEXT`. The answer is the action of the message that the text means;
 //! - `text: TEXT`. The answer is the text of the element that the text is;
 //! - `check: TEXT`. The answer is what the command prints that checks an envelope;
 //! - `response: 404`. The answer is the response with this code and no body, as it is written to a connection;
