@@ -1,9 +1,11 @@
 -- What is put of a letter or a reply is the canonical text of its route and message: for `direct_text`.
-use Rattle.std.proofs.Common.{◌≡◌, ℕ, true, List, [], Option, Some, None, Result, Ok, Err, IfOk, IfSome, sym, ap, ◌∙◌}
+use Rattle.std.proofs.Common.{◌≡◌, ℕ, true, List, [], Option, Some, None, Result, Ok, Err, IfOk, IfSome, refl, sym, ap, ◌∙◌}
 use Rattle.ba_core.specs.declared.memory.Memory.{Memory}
+use Rattle.ba_core.specs.declared.notices.Notice.{Notice}
 use Rattle.ba_message.specs.declared.messages.Message.{Message}
+use Rattle.ba_message.specs.declared.messages.Message.TheVariants as message
 use Rattle.ba_wire_limits.specs.Replies.{reply_route}
-use Rattle.ba_wire.specs.Envelopes.{envelope_text, notice_tree}
+use Rattle.ba_wire.specs.Envelopes.{envelope_text, envelope_tree, letter_tree, notice_tree}
 use Rattle.ba_xml_writer.specs.OneText.{one_text}
 use Rattle.ba_message.specs.declared.endpoints.Epr.{Epr}
 use Rattle.ba_wire.specs.declared.routes.Route.{Route}
@@ -42,3 +44,13 @@ module _ (route : Route) (m : Message) (bare : route.parameters ≡ []) (direct 
       λ i. record { to = is_to i; message_id = is_number i; relates_to = none i; parameters = bare i } in
       is.0 ∙ sym (notice_is source to number m alone direct is.1 is.2 is.3)
       ∙ ap (λ (r : Route). one_text (notice_tree source r m)) (sym same)
+
+-- a letter that is no notice is its envelope
+pub other_is : (source : Epr) (r : Route) (m : Message) → ((n : Notice) → m ≡ message.Notice n → ⊥)
+    → letter_tree source r m ≡ envelope_tree r m
+other_is source r (message.Notice n) other = absurd (other n refl)
+other_is source r (message.Create expires current kind up) other = refl
+other_is source r (message.Created context) other = refl
+other_is source r (message.Register protocol participant) other = refl
+other_is source r (message.Registered coordinator) other = refl
+other_is source r (message.Fault code) other = refl

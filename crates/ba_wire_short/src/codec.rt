@@ -41,11 +41,7 @@ pub fn encode_letter(
 {
     match message {
         Message::Notice(_) => encode_notice(alloc, source, route, message),
-        Message::Create { .. }
-        | Message::Created(_)
-        | Message::Register { .. }
-        | Message::Registered(_)
-        | Message::Fault(_) => encode(alloc, route, message),
+        _ => encode(alloc, route, message),
     }
 }
 
