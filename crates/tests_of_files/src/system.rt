@@ -177,5 +177,8 @@ fn pauses(rt: HostRuntime) -> Result<(), Fail> {
 
 #[test]
 fn stands_still(rt: HostRuntime) {
-    assert_eq!(rt; pause(&FixedClock::of(Moment(77)), 1), (Moment(77), Moment(77)));
+    assert_eq!(rt;
+        pause(&FixedClock::of(Moment(77)), 1),
+        (Moment(77), Moment(77))
+    );
 }
